@@ -1,0 +1,13 @@
+-- What to believe, in the order of document 01.
+pub mod Lists
+pub mod Hall
+pub mod Answers
+pub mod Records
+pub mod Sound
+pub mod Bytes
+pub mod Tape
+pub mod Form
+pub mod Steps
+pub mod Verdicts
+pub mod Slips
+pub mod Listing

@@ -1,0 +1,55 @@
+-- Records: 36 words each, one after the other, without a header.
+use Rattle.rules.specs.Lists.{ℕ, zero, suc, _+_, _*_, _-_, List, [], _∷_, _++_, length, take, drop, getD, replicate}
+use Rattle.rules.specs.Hall.{mostHeld}
+
+abbrev pub words : ℕ
+words = 36
+
+-- ---- the words of a record: in use, amount, count of tokens, count of sales, cells
+unfoldable pub inUse : List ℕ → ℕ
+inUse r = getD r 0 0
+
+unfoldable pub amount : List ℕ → ℕ
+amount r = getD r 1 0
+
+unfoldable pub count : List ℕ → ℕ
+count r = getD r 2 0
+
+unfoldable pub sales : List ℕ → ℕ
+sales r = getD r 3 0
+
+abbrev pub cells : List ℕ → List ℕ
+cells r = drop 4 r
+
+-- the tokens held: the count alone says which cells are filled
+unfoldable pub held : List ℕ → List ℕ
+held r = take (count r) (cells r)
+
+-- the record of four words and the cells it fills, zero past them
+unfoldable pub filled : ℕ → ℕ → ℕ → ℕ → List ℕ → List ℕ
+filled u a n s cs = u ∷ a ∷ n ∷ s ∷ (cs ++ replicate (mostHeld - length cs) 0)
+
+-- a record in use, of an amount, sales and tokens
+unfoldable pub made : ℕ → ℕ → List ℕ → List ℕ
+made a s ts = filled 1 a (length ts) s ts
+
+-- ---- a book: its block k of n words, and the book with another block k
+unfoldable pub blockAt : ℕ → ℕ → List ℕ → List ℕ
+blockAt n k b = take n (drop (n * k) b)
+
+unfoldable pub putBlock : ℕ → ℕ → List ℕ → List ℕ → List ℕ
+putBlock n k r b = take (n * k) b ++ (r ++ drop (n * k + n) b)
+
+abbrev pub recordAt : ℕ → List ℕ → List ℕ
+recordAt k b = blockAt words k b
+
+abbrev pub put : ℕ → List ℕ → List ℕ → List ℕ
+put k r b = putBlock words k r b
+
+-- its first n records, cut once, for a test that looks at all of them
+unfoldable pub cut : ℕ → List ℕ → List (List ℕ)
+cut zero b = []
+cut (suc n) b = take words b ∷ cut n (drop words b)
+
+abbrev pub rows : ℕ → List ℕ → ℕ → List ℕ
+rows n b k = getD (cut n b) k []

@@ -1,0 +1,110 @@
+-- Steps when granted: the records that a step writes, in order, each made from the book before the step.
+use Rattle.rules.specs.Lists.{ℕ, _+_, _-_, min, List, [], _∷_, _++_, length, take, drop, getD, without}
+use Rattle.rules.specs.Hall.{Hall, Place, Desk, Carnet, View, BenchView, Till, Line, number}
+use Rattle.rules.specs.Records.{amount, count, sales, held, filled, made, recordAt, put}
+use Rattle.rules.specs.Tape.{Entry}
+use Rattle.rules.specs.Form.{Form}
+
+-- a place and its new record
+pub data Change : Type 0 where
+  _≔_ : Place → List ℕ → Change
+
+infixl 20 _≔_
+unfoldable pub putAll : Hall → List Change → List ℕ → List ℕ
+putAll h [] b = b
+putAll h ((p ≔ r) ∷ cs) b = putAll h cs (put (number h p) r b)
+
+-- ---- the tokens dealt, those left, and the next n
+abbrev pub dealt : List ℕ → ℕ
+dealt b = amount (recordAt 0 b)
+
+abbrev pub left : List ℕ → List ℕ → ℕ
+left ts b = length ts - dealt b
+
+abbrev pub fresh : List ℕ → List ℕ → ℕ → List ℕ
+fresh ts b n = take n (drop (dealt b) ts)
+
+-- ---- a party has a record of its own, and the desk has a view of it
+-- both come into use without tokens, the view with an amount
+unfoldable pub joining : Place → Place → ℕ → List Change
+joining own view a = (own ≔ made 0 0 []) ∷ (view ≔ made a 0 []) ∷ []
+
+-- n fresh tokens replace what both held; the view's amount becomes a
+unfoldable pub dealing : List ℕ → List ℕ → Place → Place → ℕ → ℕ → List Change
+dealing ts b own view a n =
+    (own ≔ made 0 0 (fresh ts b n)) ∷ (view ≔ made a 0 (fresh ts b n)) ∷ (Desk ≔ made (dealt b + n) 0 []) ∷ []
+
+module _ (h : Hall) (b : List ℕ) (e : Entry) where
+  -- ---- the records that a step names
+  abbrev pub theCarnet : List ℕ
+  theCarnet = recordAt (number h (Carnet (e .customer))) b
+
+  abbrev pub theView : List ℕ
+  theView = recordAt (number h (View (e .customer))) b
+
+  abbrev pub theBenchView : List ℕ
+  theBenchView = recordAt (number h (BenchView (e .bench))) b
+
+  abbrev pub theTill : List ℕ
+  theTill = recordAt (number h (Till (e .bench))) b
+
+  abbrev pub theLine : List ℕ
+  theLine = recordAt (number h (Line (e .bench) (e .customer))) b
+
+  -- ---- the kinds that are neither a join nor an open
+  -- as many fresh tokens as the desk's view held, plus n; the budget falls by n
+  unfoldable pub updating : List ℕ → List Change
+  updating ts =
+      dealing ts b (Carnet (e .customer)) (View (e .customer)) (amount theView - e .amount) (count theView + e .amount)
+
+  -- the smaller of n and what is left is dealt
+  unfoldable pub stocking : List ℕ → List Change
+  stocking ts =
+      dealing ts b (Till (e .bench)) (BenchView (e .bench)) (amount theBenchView) (min (e .amount) (left ts b))
+
+  -- the first n carnet tokens go, in order, before the line's older ones; the sales grow by 1 if n is above 0
+  unfoldable pub soldLine : Form → List ℕ
+  soldLine f =
+      filled 1 0 (count theLine + e .amount) (sales theLine + min (e .amount) 1)
+      (f .sale (take (e .amount) (held theCarnet)) ++ f .cells theLine)
+
+  unfoldable pub selling : Form → List Change
+  selling f =
+      (Carnet (e .customer) ≔ made 0 0 (drop (e .amount) (held theCarnet)))
+      ∷ (Line (e .bench) (e .customer) ≔ soldLine f)
+      ∷ []
+
+  -- the first token of till and view goes from both
+  unfoldable pub authenticating : List Change
+  authenticating =
+      (Till (e .bench) ≔ made 0 0 (drop 1 (held theTill)))
+      ∷ (BenchView (e .bench) ≔ made (amount theBenchView) 0 (drop 1 (held theBenchView)))
+      ∷ []
+
+  -- the line's tokens leave the desk's view, the balance grows by their number, the line becomes empty
+  unfoldable pub clearing : Form → List ℕ → List Change
+  clearing f ts =
+      (View (e .customer) ≔ made (amount theView) 0 (without (f .tokens ts theLine) (held theView)))
+      ∷ (BenchView (e .bench) ≔ made (amount theBenchView + count theLine) 0 (held theBenchView))
+      ∷ (Line (e .bench) (e .customer) ≔ made 0 0 [])
+      ∷ []
+
+  -- what a granted step of kind k changes: the table of kinds, from 0 on, which is none
+  unfoldable pub changes : Form → List ℕ → ℕ → List Change
+  changes f ts k =
+      getD
+      ([]
+      ∷ joining (Carnet (e .customer)) (View (e .customer)) (e .amount)
+      ∷ joining (Till (e .bench)) (BenchView (e .bench)) 0
+      ∷ ((Line (e .bench) (e .customer) ≔ made 0 0 []) ∷ [])
+      ∷ updating ts
+      ∷ stocking ts
+      ∷ selling f
+      ∷ authenticating
+      ∷ authenticating
+      ∷ clearing f ts
+      ∷ [])
+      k []
+
+unfoldable pub effect : Form → Hall → List ℕ → List ℕ → Entry → List ℕ
+effect f h ts b e = putAll h (changes h b e f ts (e .kind)) b

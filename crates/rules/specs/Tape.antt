@@ -1,0 +1,88 @@
+-- The tape: records of 8 bytes, the kinds and what they use, what is refused of a record by itself, reader and writer.
+use Rattle.rules.specs.Lists.{ℕ, zero, suc, _+_, Bool, cond, not, _&&_, _||_, leb, ltb, eqb, List, [], _∷_, _++_, length, drop, getD, isIn}
+use Rattle.rules.specs.Hall.{Hall}
+use Rattle.rules.specs.Answers.{Rule, _⇐_, first, Answer, answer}
+use Rattle.rules.specs.Bytes.{bytesOf, wordOf}
+pub use Rattle.rules.specs.declared.Entry.{Entry}
+
+-- ---- kind, bench, customer, zero, then the amount in four bytes
+unfoldable pub entryOf : List ℕ → Entry
+entryOf bs =
+    record {
+      kind = getD bs 0 0;
+      bench = getD bs 1 0;
+      customer = getD bs 2 0;
+      byte3 = getD bs 3 0;
+      amount = wordOf (drop 4 bs);
+    }
+
+unfoldable pub eightBytes : Entry → List ℕ
+eightBytes e = e .kind ∷ e .bench ∷ e .customer ∷ e .byte3 ∷ bytesOf (e .amount)
+
+-- ---- the kinds
+pub data Kind : Type 0 where
+  JoinCustomer JoinBench OpenLine Update Stock Sell BenchAuthenticates DeskAuthenticates Clear : Kind
+
+abbrev pub kindOf : Kind → ℕ
+kindOf JoinCustomer = 1
+kindOf JoinBench = 2
+kindOf OpenLine = 3
+kindOf Update = 4
+kindOf Stock = 5
+kindOf Sell = 6
+kindOf BenchAuthenticates = 7
+kindOf DeskAuthenticates = 8
+kindOf Clear = 9
+
+abbrev pub is : Entry → Kind → Bool
+is e k = eqb (e .kind) (kindOf k)
+
+-- the kinds that use a field
+abbrev pub usesBench : Entry → Bool
+usesBench e = isIn (e .kind) (2 ∷ 3 ∷ 5 ∷ 6 ∷ 7 ∷ 8 ∷ 9 ∷ [])
+
+abbrev pub usesCustomer : Entry → Bool
+usesCustomer e = isIn (e .kind) (1 ∷ 3 ∷ 4 ∷ 6 ∷ 9 ∷ [])
+
+abbrev pub usesAmount : Entry → Bool
+usesAmount e = isIn (e .kind) (1 ∷ 4 ∷ 5 ∷ 6 ∷ [])
+
+-- ---- numbers 2 and 3, of a record by itself
+-- the kind is one of the nine; byte 3 is zero, and so is a field that the kind doesn't use
+unfoldable pub wellFormed : Entry → Bool
+wellFormed e =
+    leb 1 (e .kind) && leb (e .kind) 9 && eqb (e .byte3) 0
+    && (usesBench e || eqb (e .bench) 0)
+    && (usesCustomer e || eqb (e .customer) 0)
+    && (usesAmount e || eqb (e .amount) 0)
+
+-- a bench and a customer that are used are numbers of the hall
+unfoldable pub inHall : Hall → Entry → Bool
+inHall h e =
+    (not (usesBench e) || ltb (e .bench) (h .benches)) && (not (usesCustomer e) || ltb (e .customer) (h .customers))
+
+unfoldable pub entryRules : Hall → Entry → List Rule
+entryRules h e = (2 ⇐ not (wellFormed e)) ∷ (3 ⇐ not (inHall h e)) ∷ []
+
+-- ---- the reader: its answer, the record handed back, and its place afterwards
+pub record Reading : Type 0 where
+  pub number : ℕ
+  pub entry : Entry
+  pub next : ℕ
+
+-- moved on by 8, also with 2 or 3; with fewer than 8 bytes left, or past the end, it stays and hands back zeros
+unfoldable pub readAt : Hall → List ℕ → ℕ → Reading
+readAt h tape at =
+    let e = entryOf (drop at tape) in
+    cond (leb (at + 8) (length tape))
+    (record { number = first (entryRules h e); entry = e; next = at + 8 })
+    (record { number = 16; entry = entryOf []; next = at })
+
+-- the writer refuses what reading would refuse, and a part that isn't 8 bytes
+unfoldable pub writeEntry : Hall → Entry → List ℕ → Answer
+writeEntry h e out = answer (entryRules h e ++ (16 ⇐ not (eqb (length out) 8)) ∷ []) (eightBytes e) out
+
+-- the first n records of a tape
+unfoldable pub entries : ℕ → List ℕ → List Entry
+entries zero tape = []
+entries (suc n) tape = entryOf tape ∷ entries n (drop 8 tape)

@@ -1,0 +1,16 @@
+// The two kinds of value that the definitions of specs/ and the code have in common.
+
+// A hall, by the number of its customers and of its benches.
+pub struct Hall {
+    pub customers: usize,
+    pub benches: usize,
+}
+
+// A record of the tape, all five fields. `byte3` is zero in every record that isn't refused.
+pub struct Entry {
+    pub kind: u8,
+    pub bench: u8,
+    pub customer: u8,
+    pub byte3: u8,
+    pub amount: u32,
+}
