@@ -1,2 +1,9 @@
 pub mod Unfolded
 pub mod Cases
+pub mod Numbers
+pub mod Tests
+pub mod Answering
+pub mod Stepping
+pub mod Running
+pub mod Words
+pub mod Writing

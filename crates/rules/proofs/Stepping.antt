@@ -1,0 +1,57 @@
+-- A step: refused, it leaves the book; its verdict is a number of the table; what an update reads and what a sale leaves.
+use mathlib.Core.Path.{_≡_, refl, sym, ap, _∙_}
+use Prim.Native.Nat.{_≤_}
+use native.Mathlib.Omega.{arith}
+use lib.ListN.{length-append, length-take}
+use lib.Seq.{take-at}
+use Rattle.rules.specs.Lists.{ℕ, _+_, true, List, [], _∷_, _++_, length, take, range, isIn}
+use Rattle.rules.specs.Hall.{Hall}
+use Rattle.rules.specs.Answers.{answer}
+use Rattle.rules.specs.Records.{inUse, amount, count, sales, held, filled}
+use Rattle.rules.specs.Tape.{Entry, entryRules}
+use Rattle.rules.specs.Form.{Form, plain}
+use Rattle.rules.specs.Steps.{dealt, theCarnet, theView, theLine, dealing, updating, soldLine, effect}
+use Rattle.rules.specs.Verdicts.{table, verdict, step}
+use Rattle.rules.proofs.Answering.{answer-granted, answer-refused, numbers, first-listed}
+
+module _ (f : Form) (h : Hall) (ts b : List ℕ) (e : Entry) where
+  pub step-granted : step f h ts b e .number ≡ 0 → step f h ts b e .cells ≡ effect f h ts b e
+  unfolding step
+  step-granted g = answer-granted (table f h ts b e) (effect f h ts b e) b g
+
+  pub step-refused : (step f h ts b e .number ≡ 0 → ⊥) → step f h ts b e .cells ≡ b
+  unfolding step
+  step-refused g = answer-refused (table f h ts b e) (effect f h ts b e) b g
+
+  pub step-verdict : step f h ts b e .number ≡ verdict f h ts b e
+  unfolding step answer verdict
+  step-verdict = refl
+
+  -- the verdict is a number of the table, or 0; and the table's numbers rise, so that the first that applies is the lowest
+  pub verdict-listed : isIn (verdict f h ts b e) (numbers (table f h ts b e)) ≡ true
+  unfolding verdict
+  verdict-listed = first-listed (table f h ts b e)
+
+  pub table-numbers : numbers (table f h ts b e) ≡ range 1 15 ++ (0 ∷ [])
+  unfolding table entryRules range
+  table-numbers = refl
+
+-- an update goes by the desk's view and what is dealt, whatever the carnet holds: what was sold and not cleared is not lost
+pub update-reads : (h : Hall) (ts b b′ : List ℕ) (e : Entry) → dealt b ≡ dealt b′ → theView h b e ≡ theView h b′ e → updating h b e ts ≡ updating h b′ e ts
+unfolding updating dealing
+update-reads h ts b b′ e d v = rw (d, v)
+
+-- the tokens of a record that was filled
+pub filled-held : (u a n s : ℕ) (cs : List ℕ) → length cs ≡ n → held (filled u a n s cs) ≡ cs
+unfolding filled held count
+filled-held u a n s cs e = take-at cs _ n e
+
+-- a plain line after a sale: the first n carnet tokens, in order, then the older ones
+pub sold-before : (h : Hall) (b : List ℕ) (e : Entry)
+    → e .amount ≤ length (held (theCarnet h b e))
+    → length (held (theLine h b e)) ≡ count (theLine h b e)
+    → held (soldLine h b e plain) ≡ take (e .amount) (held (theCarnet h b e)) ++ held (theLine h b e)
+unfolding soldLine
+sold-before h b e enough full =
+    filled-held 1 0 (count (theLine h b e) + e .amount) _ (take (e .amount) (held (theCarnet h b e)) ++ held (theLine h b e))
+    (simp (length-append, length-take) (omega arith))

@@ -1,0 +1,40 @@
+-- Tests and facts: what a test that holds says, what makes a test hold, and the two cases of a test.
+use mathlib.Core.Path.{_≡_, refl}
+use mathlib.Core.Logic.{_⊎_, inl, inr}
+use Prim.Native.Nat.{_≤_, _<_}
+use borrow.Author.Tests.{leb-true, ltb-true, ltb-false, eqb-true, eqb-false, not-false, le-leb, lt-ltb, eq-eqb}
+use Rattle.rules.specs.Lists.{ℕ, Bool, true, false, _&&_, ltb, eqb}
+
+pub and-left : (a b : Bool) → a && b ≡ true → a ≡ true
+and-left true b e = refl
+and-left false b e = e
+
+pub and-right : (a b : Bool) → a && b ≡ true → b ≡ true
+and-right true b e = e
+and-right false b e = cc
+
+pub true-and : (a b : Bool) → a ≡ true → b ≡ true → a && b ≡ true
+true-and a b p q = rw (p, q)
+
+-- `search parts` takes a fact out of a test that holds; `search whole` puts a test together from facts
+pub ruleset parts = (and-left, and-right, leb-true, ltb-true, eqb-true, not-false)
+
+pub ruleset whole = (true-and, le-leb, lt-ltb, eq-eqb)
+
+pub bool : (t : Bool) → (t ≡ true) ⊎ (t ≡ false)
+bool true = inl refl
+bool false = inr refl
+
+pub below : (a b : ℕ) → (a < b) ⊎ (b ≤ a)
+below a b = go (ltb a b) refl
+  where
+    go : (t : Bool) → ltb a b ≡ t → (a < b) ⊎ (b ≤ a)
+    go true e = inl (ltb-true a b e)
+    go false e = inr (ltb-false a b e)
+
+pub same : (a b : ℕ) → (a ≡ b) ⊎ (a ≡ b → ⊥)
+same a b = go (eqb a b) refl
+  where
+    go : (t : Bool) → eqb a b ≡ t → (a ≡ b) ⊎ (a ≡ b → ⊥)
+    go true e = inl (eqb-true a b e)
+    go false e = inr (eqb-false a b e)

@@ -1,0 +1,115 @@
+-- Words to bytes to words, and bytes to words to bytes, of numbers and of whole books.
+use mathlib.Core.Path.{_≡_, refl, sym, ap, _∙_}
+use Prim.Native.Nat.{_≤_, _<_}
+use native.Mathlib.Nat.{suc-add}
+use native.Mathlib.Omega.{arith}
+use lib.ListN.{length-append, length-drop, drop-of-length-le}
+use lib.Seq.{getD-drop}
+use borrow.Author.Tests.{eq-eqb, eqb-true}
+use Rattle.rules.specs.Lists.{ℕ, zero, suc, _+_, _*_, _/_, _%_, true, List, [], _∷_, _++_, length, drop, getD}
+use Rattle.rules.specs.Hall.{Hall}
+use Rattle.rules.specs.Answers.{first, Answer, answer}
+use Rattle.rules.specs.Sound.{fits}
+use Rattle.rules.specs.Bytes.{bytesOf, wordOf, toBytes, toWords, writeBook, readBook}
+
+-- each number of the list is below n
+abbrev pub Below : ℕ → List ℕ → Type 0
+Below n xs = (i : ℕ) → getD xs i 0 < n
+
+abbrev pub byteTop : ℕ
+byteTop = 256
+
+abbrev pub wordTop : ℕ
+wordTop = 4294967296
+
+pub below-drop : (n k : ℕ) (xs : List ℕ) → Below n xs → Below n (drop k xs)
+below-drop n k xs low i = rw getD-drop (low (k + i))
+
+-- a list of four or more, by its first four
+pub four-first : (xs : List ℕ) → 4 ≤ length xs → xs ≡ getD xs 0 0 ∷ getD xs 1 0 ∷ getD xs 2 0 ∷ getD xs 3 0 ∷ drop 4 xs
+four-first [] l = absurd (omega arith)
+four-first (a ∷ []) l = absurd (omega arith)
+four-first (a ∷ b ∷ []) l = absurd (omega arith)
+four-first (a ∷ b ∷ c ∷ []) l = absurd (omega arith)
+four-first (a ∷ b ∷ c ∷ d ∷ xs) l = refl
+
+-- ---- a word, and four bytes
+pub word-back : (w : ℕ) (bs : List ℕ) → w < wordTop → wordOf (bytesOf w ++ bs) ≡ w
+unfolding wordOf bytesOf
+word-back w bs l = let top : w / 16777216 % 256 ≡ w / 16777216 = omega arith in omega arith
+
+pub bytes-back : (bs : List ℕ) → Below byteTop bs → bytesOf (wordOf bs) ≡ getD bs 0 0 ∷ getD bs 1 0 ∷ getD bs 2 0 ∷ getD bs 3 0 ∷ []
+unfolding wordOf bytesOf
+bytes-back bs low =
+    four (wordOf bs) (getD bs 0 0) (getD bs 1 0) (getD bs 2 0) (getD bs 3 0) refl (low 0) (low 1) (low 2) (low 3)
+  where
+    four : (w a b c d : ℕ) → w ≡ a + 256 * b + 65536 * c + 16777216 * d → a < byteTop → b < byteTop → c < byteTop → d < byteTop
+        → w % 256 ∷ w / 256 % 256 ∷ w / 65536 % 256 ∷ w / 16777216 % 256 ∷ [] ≡ a ∷ b ∷ c ∷ d ∷ []
+    four w a b c d e la lb lc ld =
+        let p : w % 256 ≡ a = omega arith in
+        let q : w / 256 ≡ b + 256 * (c + 256 * d) = omega arith in
+        let r : w / 65536 ≡ c + 256 * d = omega arith in
+        let s : w / 16777216 ≡ d = omega arith in
+        let q′ : (b + 256 * (c + 256 * d)) % 256 ≡ b = omega arith in
+        let r′ : (c + 256 * d) % 256 ≡ c = omega arith in
+        let s′ : d % 256 ≡ d = omega arith in
+        rw (p, q, q′, r, r′, s, s′)
+
+-- ---- lists of them
+pub words-back : (ws : List ℕ) → Below wordTop ws → toWords (length ws) (toBytes ws) ≡ ws
+unfolding toWords toBytes bytesOf
+words-back [] low = refl
+words-back (w ∷ ws) low =
+    ap (λ (x : ℕ). x ∷ toWords (length ws) (toBytes ws)) (word-back w (toBytes ws) (low 0))
+    ∙ ap (λ (xs : List ℕ). w ∷ xs) (words-back ws (λ i. low (suc i)))
+
+pub all-bytes-back : (n : ℕ) (bs : List ℕ) → length bs ≡ 4 * n → Below byteTop bs → toBytes (toWords n bs) ≡ bs
+unfolding toWords toBytes
+all-bytes-back zero [] l low = refl
+all-bytes-back zero (x ∷ bs) l low = absurd (omega arith)
+all-bytes-back (suc n) bs l low =
+    ap (λ (x : List ℕ). x ++ toBytes (toWords n (drop 4 bs))) (bytes-back bs low)
+    ∙ ap (λ (x : List ℕ). getD bs 0 0 ∷ getD bs 1 0 ∷ getD bs 2 0 ∷ getD bs 3 0 ∷ x)
+    (all-bytes-back n (drop 4 bs) (simp length-drop (omega arith)) (below-drop byteTop 4 bs low))
+    ∙ sym (four-first bs (omega arith))
+
+pub length-toBytes : (ws : List ℕ) → length (toBytes ws) ≡ 4 * length ws
+unfolding toBytes bytesOf
+length-toBytes [] = refl
+length-toBytes (w ∷ ws) = omega (arith, length-toBytes ws)
+
+pub length-toWords : (n : ℕ) (bs : List ℕ) → length (toWords n bs) ≡ n
+unfolding toWords
+length-toWords zero bs = refl
+length-toWords (suc n) bs = ap suc (length-toWords n (drop 4 bs))
+
+-- ---- a book of right length
+module _ (h : Hall) (b bs : List ℕ) (right : fits h b ≡ true) (whole : length bs ≡ 4 * length b) where
+  pub write-book : writeBook h b bs ≡ record { number = 0; cells = toBytes b }
+  unfolding writeBook answer first
+  write-book = rw (right, eq-eqb (length bs) (4 * length b) whole)
+
+  pub read-book : readBook h bs b ≡ record { number = 0; cells = toWords (length b) bs }
+  unfolding readBook answer first
+  read-book = rw (right, eq-eqb (length bs) (4 * length b) whole)
+
+-- written out and read back it is the same
+pub book-back : (h : Hall) (b b′ bs : List ℕ) → fits h b ≡ true → fits h b′ ≡ true → length bs ≡ 4 * length b → Below wordTop b
+    → readBook h (writeBook h b bs .cells) b′ ≡ record { number = 0; cells = b }
+unfolding fits
+book-back h b b′ bs right right′ whole low =
+    let same : length b′ ≡ length b = eqb-true (length b′) _ right′ ∙ sym (eqb-true (length b) _ right) in
+    ap (λ (a : Answer). readBook h (a .cells) b′) (write-book h b bs right whole)
+    ∙ read-book h b′ (toBytes b) right′ (length-toBytes b ∙ ap (λ (n : ℕ). 4 * n) (sym same))
+    ∙ ap (λ (x : List ℕ). record { number = 0; cells = x })
+    (ap (λ (n : ℕ). toWords n (toBytes b)) same ∙ words-back b low)
+
+-- read and written back it gives the same bytes
+pub book-bytes-back : (h : Hall) (b bs bs′ : List ℕ) → fits h b ≡ true → length bs ≡ 4 * length b → length bs′ ≡ 4 * length b → Below byteTop bs
+    → writeBook h (readBook h bs b .cells) bs′ ≡ record { number = 0; cells = bs }
+unfolding fits
+book-bytes-back h b bs bs′ right whole whole′ low =
+    let same : length (toWords (length b) bs) ≡ length b = length-toWords (length b) bs in
+    ap (λ (a : Answer). writeBook h (a .cells) bs′) (read-book h b bs right whole)
+    ∙ write-book h (toWords (length b) bs) bs′ (rw same right) (whole′ ∙ ap (λ (n : ℕ). 4 * n) (sym same))
+    ∙ ap (λ (x : List ℕ). record { number = 0; cells = x }) (all-bytes-back (length b) bs whole low)
