@@ -5,7 +5,7 @@ use native.Mathlib.Omega.{arith}
 use borrow.Author.Tests.{eq-eqb, ne-eqb, ltb-true, lt-ltb}
 use Rattle.rules.specs.Lists.{ℕ, _+_, Bool, true, false, _&&_, ltb, List, [], _∷_, _++_, occ, isIn}
 use Rattle.rules.proofs.Tests.{parts, and-right}
-use Rattle.rules.specs.Answers.{Rule, _⇐_, first, Answer, answer}
+use Rattle.rules.specs.Answers.{Rule, _⇐_, first, answer}
 
 module _ (rules : List Rule) (new old : List ℕ) where
   pub answer-granted : answer rules new old .number ≡ 0 → answer rules new old .cells ≡ new

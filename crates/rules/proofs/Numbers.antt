@@ -1,6 +1,6 @@
 -- The main hall's numbers, as document 01's table has them.
 use mathlib.Core.Path.{_≡_, refl}
-use Rattle.rules.specs.Lists.{ℕ, _*_}
+use Rattle.rules.specs.Lists.{_*_}
 use Rattle.rules.specs.Hall.{mainHall, Desk, Carnet, View, BenchView, Till, Line, number, records}
 use Rattle.rules.specs.Records.{words}
 

@@ -5,7 +5,7 @@ use native.Mathlib.Nat.{zero-add, suc-add}
 use native.Mathlib.Omega.{arith}
 use lib.ListN.{length-append, length-drop, List·getD-append}
 use lib.Seq.{drop-append-le}
-use borrow.Author.Tests.{eq-eqb, ne-eqb, eqb-true}
+use borrow.Author.Tests.{eq-eqb, eqb-true}
 use Rattle.rules.specs.Lists.{ℕ, zero, suc, _+_, _*_, Bool, true, false, eqb, List, [], _∷_, _++_, length, drop, getD}
 use Rattle.rules.specs.Hall.{Hall}
 use Rattle.rules.specs.Answers.{first}

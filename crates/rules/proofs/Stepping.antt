@@ -1,5 +1,5 @@
 -- A step: refused, it leaves the book; its verdict is a number of the table; what an update reads and what a sale leaves.
-use mathlib.Core.Path.{_≡_, refl, sym, ap, _∙_}
+use mathlib.Core.Path.{_≡_, refl}
 use Prim.Native.Nat.{_≤_}
 use native.Mathlib.Omega.{arith}
 use lib.ListN.{length-append, length-take}
@@ -7,7 +7,7 @@ use lib.Seq.{take-at}
 use Rattle.rules.specs.Lists.{ℕ, _+_, true, List, [], _∷_, _++_, length, take, range, isIn}
 use Rattle.rules.specs.Hall.{Hall}
 use Rattle.rules.specs.Answers.{answer}
-use Rattle.rules.specs.Records.{inUse, amount, count, sales, held, filled}
+use Rattle.rules.specs.Records.{amount, count, held, filled}
 use Rattle.rules.specs.Tape.{Entry, entryRules}
 use Rattle.rules.specs.Form.{Form, plain}
 use Rattle.rules.specs.Steps.{dealt, theCarnet, theView, theLine, dealing, updating, soldLine, effect}

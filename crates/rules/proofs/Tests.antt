@@ -3,7 +3,7 @@ use mathlib.Core.Path.{_≡_, refl}
 use mathlib.Core.Logic.{_⊎_, inl, inr}
 use Prim.Native.Nat.{_≤_, _<_}
 use borrow.Author.Tests.{leb-true, ltb-true, ltb-false, eqb-true, eqb-false, not-false, le-leb, lt-ltb, eq-eqb}
-use Rattle.rules.specs.Lists.{ℕ, Bool, true, false, _&&_, ltb, eqb}
+use Rattle.rules.specs.Lists.{ℕ, Bool, true, false, _&&_, _||_, ltb, eqb}
 
 pub and-left : (a b : Bool) → a && b ≡ true → a ≡ true
 and-left true b e = refl
@@ -15,6 +15,18 @@ and-right false b e = cc
 
 pub true-and : (a b : Bool) → a ≡ true → b ≡ true → a && b ≡ true
 true-and a b p q = rw (p, q)
+
+-- of a test that fails
+pub and-false : (a b : Bool) → a && b ≡ false → a ≡ true → b ≡ false
+and-false a b e p = rw p at e
+
+pub or-left : (a b : Bool) → a || b ≡ false → a ≡ false
+or-left true b e = e
+or-left false b e = refl
+
+pub or-right : (a b : Bool) → a || b ≡ false → b ≡ false
+or-right true b e = cc
+or-right false b e = e
 
 -- `search parts` takes a fact out of a test that holds; `search whole` puts a test together from facts
 pub ruleset parts = (and-left, and-right, leb-true, ltb-true, eqb-true, not-false)

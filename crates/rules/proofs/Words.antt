@@ -1,9 +1,8 @@
 -- Words to bytes to words, and bytes to words to bytes, of numbers and of whole books.
 use mathlib.Core.Path.{_≡_, refl, sym, ap, _∙_}
 use Prim.Native.Nat.{_≤_, _<_}
-use native.Mathlib.Nat.{suc-add}
 use native.Mathlib.Omega.{arith}
-use lib.ListN.{length-append, length-drop, drop-of-length-le}
+use lib.ListN.{length-drop}
 use lib.Seq.{getD-drop}
 use borrow.Author.Tests.{eq-eqb, eqb-true}
 use Rattle.rules.specs.Lists.{ℕ, zero, suc, _+_, _*_, _/_, _%_, true, List, [], _∷_, _++_, length, drop, getD}

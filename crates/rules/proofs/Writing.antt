@@ -3,13 +3,12 @@ use mathlib.Core.Path.{_≡_, refl, sym, ap, _∙_}
 use Prim.Native.Nat.{_≤_, _<_}
 use native.Mathlib.Omega.{arith}
 use mathlib.Core.List.{append-nil}
-use lib.ListN.{length-drop, length-take, drop-of-length-le}
-use lib.Seq.{drop-drop, take-add}
+use lib.ListN.{length-drop}
 use mathlib.Core.Logic.{⊎-elim}
 use borrow.Author.Tests.{eq-eqb, le-leb, lt-leb}
-use Rattle.rules.specs.Lists.{ℕ, _+_, Bool, true, false, cond, eqb, List, [], _∷_, _++_, length, take, drop, getD}
+use Rattle.rules.specs.Lists.{ℕ, _+_, List, [], _∷_, length, take, drop, getD}
 use Rattle.rules.specs.Hall.{Hall}
-use Rattle.rules.specs.Answers.{Rule, _⇐_, first, Answer, answer}
+use Rattle.rules.specs.Answers.{first, Answer, answer}
 use Rattle.rules.specs.Bytes.{bytesOf, wordOf}
 use Rattle.rules.specs.Tape.{Entry, entryOf, eightBytes, entryRules, Reading, readAt, writeEntry}
 use Rattle.rules.proofs.Tests.{below}

@@ -38,28 +38,28 @@ abbrev pub is : Entry → Kind → Bool
 is e k = eqb (e .kind) (kindOf k)
 
 -- the kinds that use a field
-abbrev pub usesBench : Entry → Bool
-usesBench e = isIn (e .kind) (2 ∷ 3 ∷ 5 ∷ 6 ∷ 7 ∷ 8 ∷ 9 ∷ [])
+abbrev pub usesBench : ℕ → Bool
+usesBench k = isIn k (2 ∷ 3 ∷ 5 ∷ 6 ∷ 7 ∷ 8 ∷ 9 ∷ [])
 
-abbrev pub usesCustomer : Entry → Bool
-usesCustomer e = isIn (e .kind) (1 ∷ 3 ∷ 4 ∷ 6 ∷ 9 ∷ [])
+abbrev pub usesCustomer : ℕ → Bool
+usesCustomer k = isIn k (1 ∷ 3 ∷ 4 ∷ 6 ∷ 9 ∷ [])
 
-abbrev pub usesAmount : Entry → Bool
-usesAmount e = isIn (e .kind) (1 ∷ 4 ∷ 5 ∷ 6 ∷ [])
+abbrev pub usesAmount : ℕ → Bool
+usesAmount k = isIn k (1 ∷ 4 ∷ 5 ∷ 6 ∷ [])
 
 -- ---- numbers 2 and 3, of a record by itself
 -- the kind is one of the nine; byte 3 is zero, and so is a field that the kind doesn't use
 unfoldable pub wellFormed : Entry → Bool
 wellFormed e =
     leb 1 (e .kind) && leb (e .kind) 9 && eqb (e .byte3) 0
-    && (usesBench e || eqb (e .bench) 0)
-    && (usesCustomer e || eqb (e .customer) 0)
-    && (usesAmount e || eqb (e .amount) 0)
+    && (usesBench (e .kind) || eqb (e .bench) 0)
+    && (usesCustomer (e .kind) || eqb (e .customer) 0)
+    && (usesAmount (e .kind) || eqb (e .amount) 0)
 
 -- a bench and a customer that are used are numbers of the hall
 unfoldable pub inHall : Hall → Entry → Bool
 inHall h e =
-    (not (usesBench e) || ltb (e .bench) (h .benches)) && (not (usesCustomer e) || ltb (e .customer) (h .customers))
+    (not (usesBench (e .kind)) || ltb (e .bench) (h .benches)) && (not (usesCustomer (e .kind)) || ltb (e .customer) (h .customers))
 
 unfoldable pub entryRules : Hall → Entry → List Rule
 entryRules h e = (2 ⇐ not (wellFormed e)) ∷ (3 ⇐ not (inHall h e)) ∷ []

@@ -26,7 +26,7 @@ module _ (f : Form) (h : Hall) (ts b : List ℕ) (e : Entry) where
       ∷ entryRules h e
       ++ (4 ⇐ is e JoinCustomer && used carnet || is e JoinBench && used till || is e OpenLine && used line)
       ∷ (5
-      ⇐ leb (kindOf OpenLine) (e .kind) && (usesBench e && not (used benchView) || usesCustomer e && not (used view)))
+      ⇐ leb (kindOf OpenLine) (e .kind) && (usesBench (e .kind) && not (used benchView) || usesCustomer (e .kind) && not (used view)))
       ∷ (6 ⇐ (is e Sell || is e Clear) && not (used line))
       ∷ (7 ⇐ is e JoinCustomer && ltb mostBudget n || is e Stock && ltb mostHeld n)
       ∷ (8 ⇐ is e Update && ltb (amount view) n)

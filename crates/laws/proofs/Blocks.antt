@@ -1,0 +1,111 @@
+-- Blocks of n words in one list: what stands in block k, after block k was put, and a list by its blocks.
+use mathlib.Core.Path.{_≡_, sym, ap, _∙_}
+use mathlib.Core.Logic.{⊎-elim}
+use Prim.Native.Nat.{_≤_, _<_}
+use native.Mathlib.Nat.{mul-le-mul-left}
+use native.Mathlib.Omega.{arith}
+use lib.ListN.{length-append, length-take, length-drop, take-append-drop, drop-of-length-le}
+use lib.Seq.{take-at, drop-at, take-append-le, drop-append-le, drop-drop, length-take-le}
+use Rattle.rules.specs.Lists.{ℕ, zero, suc, _+_, _*_, _-_, List, [], _++_, length, take, drop}
+use Rattle.rules.specs.Records.{blockAt, putBlock}
+use Rattle.rules.proofs.Tests.{below}
+
+-- a part that ends within p does not see what follows p
+within : (p x : List ℕ) (a n : ℕ) → a + n ≤ length p → take n (drop a (p ++ x)) ≡ take n (drop a p)
+within p x a n h =
+    let h₁ : a ≤ length p = omega arith in
+    let h₂ : n ≤ length (drop a p) = simp length-drop (omega arith) in
+    rw (drop-append-le, take-append-le)
+
+-- lists that agree from m on agree from any later place on
+beyond : (l l′ : List ℕ) (m a : ℕ) → m ≤ a → drop m l ≡ drop m l′ → drop a l ≡ drop a l′
+beyond l l′ m a h e =
+    let q : m + (a - m) ≡ a = omega arith in
+    ap (λ (i : ℕ). drop i l) (sym q) ∙ sym (drop-drop (a - m) m l) ∙ ap (drop (a - m)) e ∙ drop-drop (a - m) m l′
+    ∙ ap (λ (i : ℕ). drop i l′) q
+
+-- ---- block k is put
+module _ (n k : ℕ) (r b : List ℕ) (long : length r ≡ n) (fits : n * k + n ≤ length b) where
+  head-length : length (take (n * k) b) ≡ n * k
+  head-length = length-take-le (n * k) b (omega arith)
+
+  pub block-same : blockAt n k (putBlock n k r b) ≡ r
+  unfolding blockAt putBlock
+  block-same = rw (drop-at _ _ _ head-length, take-at r _ n long)
+
+  pub block-length : length (putBlock n k r b) ≡ length b
+  unfolding putBlock
+  block-length = simp (length-append, length-take, length-drop) (omega arith)
+
+  tail-kept : drop (n * k + n) (putBlock n k r b) ≡ drop (n * k + n) b
+  unfolding putBlock
+  tail-kept = sym (drop-drop n (n * k) _) ∙ ap (drop n) (drop-at (take (n * k) b) _ _ head-length) ∙ drop-at r _ n long
+
+  pub block-other : (j : ℕ) → (j ≡ k → ⊥) → blockAt n j (putBlock n k r b) ≡ blockAt n j b
+  unfolding blockAt putBlock
+  block-other j ne =
+      ⊎-elim
+      (λ (l : j < k).
+      let h : n * j + n ≤ length (take (n * k) b) = omega (arith, head-length, mul-le-mul-left n l) in
+      within _ _ _ _ h
+      ∙ sym (within (take (n * k) b) (drop (n * k) b) _ _ h)
+      ∙ ap (λ (l : List ℕ). take n (drop (n * j) l)) (take-append-drop (n * k) b))
+      (λ (l : k ≤ j).
+      let l′ : k < j = omega arith in
+      let h : n * k + n ≤ n * j = omega (arith, mul-le-mul-left n l′) in
+      ap (take n) (beyond (putBlock n k r b) b _ _ h tail-kept))
+      (below j k)
+
+-- a block put where it stands changes nothing
+pub block-back : (n k : ℕ) (b : List ℕ) → putBlock n k (blockAt n k b) b ≡ b
+unfolding blockAt putBlock
+block-back n k b =
+    ap (λ (x : List ℕ). take (n * k) b ++ (take n (drop (n * k) b) ++ x)) (sym (drop-drop n (n * k) b))
+    ∙ ap (λ (x : List ℕ). take (n * k) b ++ x) (take-append-drop n (drop (n * k) b))
+    ∙ take-append-drop (n * k) b
+
+-- ---- a list by its blocks
+pub block-long : (n k : ℕ) (b : List ℕ) → n * k + n ≤ length b → length (blockAt n k b) ≡ n
+unfolding blockAt
+block-long n k b l = simp (length-take, length-drop) (omega arith)
+
+pub block-drop : (n j : ℕ) (b : List ℕ) → blockAt n j (drop n b) ≡ blockAt n (suc j) b
+unfolding blockAt
+block-drop n j b =
+    let e : n + n * j ≡ n * suc j = omega arith in ap (take n) (drop-drop (n * j) n b ∙ ap (λ (i : ℕ). drop i b) e)
+
+pub block-zero : (n : ℕ) (b : List ℕ) → blockAt n 0 b ≡ take n b
+unfolding blockAt
+block-zero n b = let e : n * 0 ≡ 0 = omega arith in ap (λ (i : ℕ). take n (drop i b)) e
+
+pub block-past : (n k j : ℕ) (b : List ℕ) → length b ≡ n * k → k ≤ j → blockAt n j b ≡ take n []
+unfolding blockAt
+block-past n k j b long l =
+    let m : length b ≤ n * j = omega (arith, mul-le-mul-left n l) in ap (take n) (drop-of-length-le b m)
+
+-- two lists of k blocks whose blocks are equal
+pub block-ext : (n k : ℕ) (a b : List ℕ) → length a ≡ n * k → length b ≡ n * k → ((j : ℕ) → j < k → blockAt n j a ≡ blockAt n j b) → a ≡ b
+block-ext n zero a b la lb e =
+    let ea : length a ≤ 0 = omega arith in
+    let eb : length b ≤ 0 = omega arith in
+    drop-of-length-le a ea ∙ sym (drop-of-length-le b eb)
+block-ext n (suc k) a b la lb e =
+    sym (take-append-drop n a)
+    ∙ ap (λ (l : List ℕ). l ++ drop n a) (sym (block-zero n a) ∙ e 0 (omega arith) ∙ block-zero n b)
+    ∙ ap (λ (l : List ℕ). take n b ++ l)
+    (block-ext n k (drop n a) (drop n b) (simp length-drop (omega arith)) (simp length-drop (omega arith))
+    (λ j l. block-drop n j a ∙ e (suc j) (omega arith) ∙ sym (block-drop n j b)))
+    ∙ take-append-drop n b
+
+-- a list in two parts, the first of m blocks
+module _ (n m : ℕ) (a b : List ℕ) (long : length a ≡ n * m) where
+  pub block-first : (j : ℕ) → j < m → blockAt n j (a ++ b) ≡ blockAt n j a
+  unfolding blockAt
+  block-first j l = within a b (n * j) n (omega (arith, mul-le-mul-left n l))
+
+  pub block-second : (j : ℕ) → blockAt n (m + j) (a ++ b) ≡ blockAt n j b
+  unfolding blockAt
+  block-second j =
+      let e : n * (m + j) ≡ n * m + n * j = omega arith in
+      ap (λ (i : ℕ). take n (drop i (a ++ b))) e
+      ∙ ap (take n) (sym (drop-drop (n * j) (n * m) (a ++ b)) ∙ ap (drop (n * j)) (drop-at a b (n * m) long))

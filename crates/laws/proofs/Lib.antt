@@ -1,0 +1,12 @@
+pub mod Groups
+pub mod Zeros
+pub mod Occurrences
+pub mod Blocks
+pub mod Made
+pub mod Reflect
+pub mod Asked
+pub mod Opened
+pub mod ReflectSlips
+pub mod Empty
+pub mod Granted
+pub mod Nothing

@@ -1,0 +1,70 @@
+-- Records that are filled and made: their words, their tokens, and the record that is filled from its own words.
+use mathlib.Core.Path.{_≡_, refl, sym, ap, _∙_}
+use Prim.Native.Nat.{_≤_}
+use native.Mathlib.Omega.{arith}
+use lib.ListN.{length-append, length-take, length-drop, length-replicate, take-append-drop}
+use Rattle.rules.specs.Lists.{ℕ, _-_, true, List, _∷_, _++_, length, take, drop, getD, replicate, allZero}
+use Rattle.rules.specs.Hall.{mostHeld}
+use Rattle.rules.specs.Records.{words, inUse, amount, count, sales, cells, held, filled, made}
+use Rattle.rules.proofs.Stepping.{filled-held}
+use Rattle.rules.proofs.Words.{four-first}
+use Rattle.laws.proofs.Zeros.{zero-zeros}
+
+module _ (u a n s : ℕ) (cs : List ℕ) where
+  pub filled-use : inUse (filled u a n s cs) ≡ u
+  unfolding filled inUse
+  filled-use = refl
+
+  pub filled-amount : amount (filled u a n s cs) ≡ a
+  unfolding filled amount
+  filled-amount = refl
+
+  pub filled-count : count (filled u a n s cs) ≡ n
+  unfolding filled count
+  filled-count = refl
+
+  pub filled-sales : sales (filled u a n s cs) ≡ s
+  unfolding filled sales
+  filled-sales = refl
+
+  pub filled-long : length cs ≤ mostHeld → length (filled u a n s cs) ≡ words
+  unfolding filled
+  filled-long l = omega (arith, length-append cs (replicate (mostHeld - length cs) 0), length-replicate {A = ℕ} (mostHeld - length cs) 0)
+
+module _ (a s : ℕ) (ts : List ℕ) where
+  pub made-use : inUse (made a s ts) ≡ 1
+  unfolding made
+  made-use = filled-use 1 a (length ts) s ts
+
+  pub made-amount : amount (made a s ts) ≡ a
+  unfolding made
+  made-amount = filled-amount 1 a (length ts) s ts
+
+  pub made-count : count (made a s ts) ≡ length ts
+  unfolding made
+  made-count = filled-count 1 a (length ts) s ts
+
+  pub made-sales : sales (made a s ts) ≡ s
+  unfolding made
+  made-sales = filled-sales 1 a (length ts) s ts
+
+  pub made-held : held (made a s ts) ≡ ts
+  unfolding made
+  made-held = filled-held 1 a (length ts) s ts refl
+
+  pub made-long : length ts ≤ mostHeld → length (made a s ts) ≡ words
+  unfolding made
+  made-long = filled-long 1 a (length ts) s ts
+
+-- a record that is zero past its first k cells is filled from its four words and those cells
+pub filled-is : (r : List ℕ) (k : ℕ) → length r ≡ words → k ≤ mostHeld → allZero (drop k (cells r)) ≡ true
+    → r ≡ filled (inUse r) (amount r) (count r) (sales r) (take k (cells r))
+unfolding filled inUse amount count sales
+filled-is r k long l z =
+    let cs : List ℕ = take k (cells r) in
+    let size : length (take k (cells r)) ≡ k = simp (length-take, length-drop) (omega arith) in
+    let rest : length (drop k (cells r)) ≡ mostHeld - length (take k (cells r)) = rw size (simp length-drop (omega arith)) in
+    four-first r (omega arith)
+    ∙ ap (λ (x : List ℕ). getD r 0 0 ∷ getD r 1 0 ∷ getD r 2 0 ∷ getD r 3 0 ∷ x)
+    (sym (take-append-drop k (cells r))
+    ∙ ap (λ (x : List ℕ). take k (cells r) ++ x) (zero-zeros (drop k (cells r)) z ∙ ap (λ (n : ℕ). replicate n 0) rest))
