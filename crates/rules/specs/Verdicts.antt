@@ -14,6 +14,7 @@ abbrev pub authenticates : Entry → Bool
 authenticates e = is e BenchAuthenticates || is e DeskAuthenticates
 
 module _ (f : Form) (h : Hall) (ts b : List ℕ) (e : Entry) where
+  -- 2 and 3 are those of the tape record by itself
   unfoldable pub table : List Rule
   table =
       let n = e .amount in
