@@ -3,9 +3,9 @@ use mathlib.Core.Path.{_≡_, sym, ap, _∙_}
 use Prim.Native.Nat.{_≤_, _<_}
 use native.Mathlib.Omega.{arith}
 use lib.ListN.{length-take, length-drop}
-use borrow.Author.Tests.{lt-ltb, le-ltb, le-leb, eq-eqb, ne-eqb}
+use borrow.Author.Tests.{lt-ltb, le-ltb, le-leb, eq-eqb}
 use Rattle.rules.specs.declared.Hall.{Hall}
-use Rattle.rules.specs.Lists.{ℕ, min, true, _&&_, _||_, eqb, List, [], length, take, drop, every, allZero, isIn, allDifferent}
+use Rattle.rules.specs.Lists.{ℕ, min, true, _&&_, eqb, List, [], length, take, drop, every, allZero, isIn, allDifferent}
 use Rattle.rules.specs.Hall.{mostHeld, mostSales, Carnet, View, Till, Line, number}
 use Rattle.rules.specs.Records.{words, inUse, amount, count, sales, cells, held, filled, made}
 use Rattle.rules.specs.Sound.{shaped, deskGood, bare, lineGood, placeGood, recordGood}
@@ -39,13 +39,6 @@ module _ (r : List ℕ) where
   pub shaped-facts : shaped r ≡ true → Shaped r
   unfolding shaped
   shaped-facts e = record { flag = search parts; short = search parts; past = search parts }
-
-  -- a record not in use is all zero
-  pub shaped-unused : shaped r ≡ true → inUse r ≡ 0 → allZero r ≡ true
-  unfolding shaped
-  shaped-unused e z =
-      let p : eqb (inUse r) 1 || allZero r ≡ true = search parts in
-      rw (ne-eqb (inUse r) 1 (λ q. omega arith)) at p
 
   pub held-none : count r ≡ 0 → held r ≡ []
   unfolding held

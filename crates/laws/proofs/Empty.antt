@@ -13,7 +13,7 @@ use Rattle.rules.specs.Records.{words, inUse, amount, count, sales, held, fille
 use Rattle.rules.specs.Sound.{goodList, shaped, deskGood, bare, lineGood, placeGood, recordGood, sound, emptyBook}
 use Rattle.rules.specs.Slips.{slipTokens, openSlip, openSlips, openedLine, openBook, slipSum, slipsGood, slipLineGood, isRun, slipSound}
 use Rattle.rules.proofs.Tests.{below, true-and}
-use Rattle.laws.proofs.Groups.{sum-none}
+use Rattle.laws.proofs.Sums.{sum-none}
 use Rattle.laws.proofs.Zeros.{zeros, drop-zeros, take-zeros}
 use Rattle.laws.proofs.Blocks.{block-zero, block-first, block-second, block-past, block-ext}
 use Rattle.laws.proofs.Made.{made-long}

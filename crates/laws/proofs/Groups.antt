@@ -1,10 +1,11 @@
--- Tests and sums over a range of numbers.
-use mathlib.Core.Path.{_≡_, refl, ap, _∙_}
+-- A range of numbers: a test of each, and how often a number stands in it.
+use mathlib.Core.Path.{_≡_, refl, sym, ap, _∙_}
 use mathlib.Core.Logic.{⊎-elim}
 use Prim.Native.Nat.{_≤_, _<_}
 use native.Mathlib.Omega.{arith}
-use Rattle.rules.specs.Lists.{ℕ, zero, suc, _+_, Bool, true, List, [], _∷_, range, every, sumOf}
+use Rattle.rules.specs.Lists.{ℕ, zero, suc, _+_, Bool, true, range, every, occ}
 use Rattle.rules.proofs.Tests.{same, and-left, and-right, true-and}
+use Rattle.laws.proofs.Occurrences.{occ-equal, occ-unequal}
 
 module _ (test : ℕ → Bool) where
   pub every-range : (a n : ℕ) → every test (range a n) ≡ true → (k : ℕ) → a ≤ k → k < a + n → test k ≡ true
@@ -23,7 +24,26 @@ module _ (test : ℕ → Bool) where
   range-every a (suc n) h =
       true-and (test a) _ (h a (omega arith) (omega arith)) (range-every (suc a) n (λ k l u. h k (omega arith) (omega arith)))
 
-pub sum-none : (f : ℕ → ℕ) → ((k : ℕ) → f k ≡ 0) → (ks : List ℕ) → sumOf f ks ≡ 0
-unfolding sumOf
-sum-none f e [] = refl
-sum-none f e (k ∷ ks) = omega (arith, e k, sum-none f e ks)
+-- ---- how often a number stands in a range
+module _ (k : ℕ) where
+  pub occ-before : (a n : ℕ) → k < a → occ k (range a n) ≡ 0
+  unfolding range occ
+  occ-before a zero l = refl
+  occ-before a (suc n) l = occ-unequal k a (range (suc a) n) (λ e. omega arith) ∙ occ-before (suc a) n (omega arith)
+
+  pub occ-past : (a n : ℕ) → a + n ≤ k → occ k (range a n) ≡ 0
+  unfolding range occ
+  occ-past a zero l = refl
+  occ-past a (suc n) l = occ-unequal k a (range (suc a) n) (λ e. omega arith) ∙ occ-past (suc a) n (omega arith)
+
+  pub occ-within : (a n : ℕ) → a ≤ k → k < a + n → occ k (range a n) ≡ 1
+  unfolding range
+  occ-within a zero l u = absurd (omega arith)
+  occ-within a (suc n) l u =
+      ⊎-elim
+      (λ (e : k ≡ a).
+      occ-equal k a (range (suc a) n) e
+      ∙ ap (λ (i : ℕ). suc (occ i (range (suc a) n))) (sym e)
+      ∙ ap suc (occ-before (suc a) n (omega arith)))
+      (λ (e : k ≡ a → ⊥). occ-unequal k a (range (suc a) n) e ∙ occ-within (suc a) n (omega arith) (omega arith))
+      (same k a)

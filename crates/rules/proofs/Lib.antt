@@ -7,3 +7,4 @@ pub mod Stepping
 pub mod Running
 pub mod Words
 pub mod Writing
+pub mod Granted

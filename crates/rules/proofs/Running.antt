@@ -5,7 +5,7 @@ use native.Mathlib.Nat.{zero-add, suc-add}
 use native.Mathlib.Omega.{arith}
 use lib.ListN.{length-append, length-drop, List·getD-append}
 use lib.Seq.{drop-append-le}
-use borrow.Author.Tests.{eq-eqb, eqb-true}
+use borrow.Author.Tests.{eq-eqb, ne-eqb, eqb-true}
 use Rattle.rules.specs.Lists.{ℕ, zero, suc, _+_, _*_, Bool, true, false, eqb, List, [], _∷_, _++_, length, drop, getD}
 use Rattle.rules.specs.Hall.{Hall}
 use Rattle.rules.specs.Answers.{first}
@@ -40,6 +40,10 @@ module _ (f : Form) (h : Hall) (ts : List ℕ) where
     pub run-does : f .good h ts b ≡ true → length tape ≡ 8 * length out → run f h ts b tape out ≡ steps f h ts b (entries (length out) tape)
     unfolding run first
     run-does g l = rw (g, eq-eqb (length tape) (8 * length out) l)
+
+    pub run-short : f .good h ts b ≡ true → (length tape ≡ 8 * length out → ⊥) → run f h ts b tape out ≡ record { answer = 16; verdicts = out; book = b }
+    unfolding run first
+    run-short g l = rw (g, ne-eqb (length tape) (8 * length out) l)
 
     -- a run is refused with 1 or 16 and writes nothing; else it is granted
     refused-or : (P : Type 0) (g t : Bool) → f .good h ts b ≡ g → eqb (length tape) (8 * length out) ≡ t

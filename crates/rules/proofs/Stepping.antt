@@ -1,13 +1,14 @@
 -- A step: refused, it leaves the book; its verdict is a number of the table; what an update reads and what a sale leaves.
 use mathlib.Core.Path.{_≡_, refl}
-use Prim.Native.Nat.{_≤_}
+use Prim.Native.Nat.{_≤_, _<_}
 use native.Mathlib.Omega.{arith}
 use lib.ListN.{length-append, length-take}
 use lib.Seq.{take-at}
-use Rattle.rules.specs.Lists.{ℕ, _+_, true, List, [], _∷_, _++_, length, take, range, isIn}
-use Rattle.rules.specs.Hall.{Hall}
+use Rattle.rules.specs.Lists.{ℕ, suc, _+_, _-_, min, true, List, [], _∷_, _++_, length, take, getD, replicate, range, isIn}
+use Rattle.rules.specs.Hall.{Hall, mostHeld}
 use Rattle.rules.specs.Answers.{answer}
-use Rattle.rules.specs.Records.{amount, count, held, filled}
+use Rattle.rules.specs.Records.{amount, count, sales, held, filled}
+use Rattle.rules.specs.Slips.{openSlip, openSlips, slipTokens, slipPairs, slipOf, slip}
 use Rattle.rules.specs.Tape.{Entry, entryRules}
 use Rattle.rules.specs.Form.{Form, plain}
 use Rattle.rules.specs.Steps.{dealt, theCarnet, theView, theLine, dealing, updating, soldLine, effect}
@@ -55,3 +56,12 @@ unfolding soldLine
 sold-before h b e enough full =
     filled-held 1 0 (count (theLine h b e) + e .amount) _ (take (e .amount) (held (theCarnet h b e)) ++ held (theLine h b e))
     (simp (length-append, length-take) (omega arith))
+
+-- a slip line after a sale of the tokens t ∷ g: its newest slip opens first, then the older ones
+pub slip-sold-before : (h : Hall) (ts b : List ℕ) (e : Entry) (t : ℕ) (g : List ℕ) → 0 < e .amount → take (e .amount) (held (theCarnet h b e)) ≡ t ∷ g
+    → slipTokens ts (soldLine h b e slip)
+    ≡ openSlip ts t (length (t ∷ g))
+    ++ openSlips ts (sales (theLine h b e)) (slipPairs (theLine h b e) ++ replicate (mostHeld - length (t ∷ length (t ∷ g) ∷ slipPairs (theLine h b e))) 0)
+unfolding soldLine filled slipTokens openSlips slipOf sales
+slip-sold-before h ts b e t g l q =
+    let one : getD (theLine h b e) 3 0 + min (e .amount) 1 ≡ suc (getD (theLine h b e) 3 0) = omega arith in rw (one, q)

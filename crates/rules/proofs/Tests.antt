@@ -1,4 +1,4 @@
--- Tests and facts: what a test that holds says, what makes a test hold, and the two cases of a test.
+-- Tests and facts: what a test that holds says, what makes a test hold, and the two cases of a comparison.
 use mathlib.Core.Path.{_≡_, refl}
 use mathlib.Core.Logic.{_⊎_, inl, inr}
 use Prim.Native.Nat.{_≤_, _<_}
@@ -32,10 +32,6 @@ or-right false b e = e
 pub ruleset parts = (and-left, and-right, leb-true, ltb-true, eqb-true, not-false)
 
 pub ruleset whole = (true-and, le-leb, lt-ltb, eq-eqb)
-
-pub bool : (t : Bool) → (t ≡ true) ⊎ (t ≡ false)
-bool true = inl refl
-bool false = inr refl
 
 pub below : (a b : ℕ) → (a < b) ⊎ (b ≤ a)
 below a b = go (ltb a b) refl

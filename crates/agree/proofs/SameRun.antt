@@ -1,0 +1,87 @@
+-- A sound slip book and its opened book: step for step the same verdict, and the slip book stays sound and opens to the plain one.
+use mathlib.Core.Path.{_≡_, refl, sym, ap, _∙_}
+use mathlib.Core.Logic.{⊎-elim}
+use Rattle.rules.specs.declared.Hall.{Hall}
+use Rattle.rules.specs.declared.Entry.{Entry}
+use Rattle.rules.specs.Lists.{ℕ, true, List, [], _∷_}
+use Rattle.rules.specs.Form.{plain}
+use Rattle.rules.specs.Slips.{openBook, slipSound, slip}
+use Rattle.rules.specs.Steps.{changes, effect}
+use Rattle.rules.specs.Verdicts.{verdict, step, steps}
+use Rattle.rules.proofs.Tests.{same}
+use Rattle.rules.proofs.Stepping.{step-granted, step-refused, step-verdict}
+use Rattle.laws.proofs.Changes.{Each, Fit}
+use Rattle.laws.proofs.ReflectSlips.{SlipSound, slip-sound-facts, slip-sound-test}
+use Rattle.rules.proofs.Granted.{granted-good, kind-from, kind-to}
+use Rattle.keeps.proofs.Fits.{fits, changes-apart}
+use Rattle.keeps.proofs.Keeps.{plain-keeps, step-keeps}
+use Rattle.agree.proofs.SameVerdict.{same-verdict}
+use Rattle.agree.proofs.OpenChanges.{fine-opens, fine-slip-sound}
+use Rattle.agree.proofs.SameStep.{slip-fine, slip-regular}
+
+-- ---- a granted step
+module _ (h : Hall) (ts b : List ℕ) (e : Entry) (v : verdict slip h ts b e ≡ 0) where
+  ok : SlipSound h ts b
+  ok = slip-sound-facts h ts b (granted-good slip h ts b e v)
+
+  v′ : verdict plain h ts (openBook h ts b) e ≡ 0
+  v′ = sym (same-verdict h ts b e (granted-good slip h ts b e v)) ∙ v
+
+  whole : Each (Fit h) (changes h b e slip ts (e .kind))
+  whole = fits slip slip-regular h ts b e v
+
+  effect-opens : openBook h ts (effect slip h ts b e) ≡ effect plain h ts (openBook h ts b) e
+  unfolding effect
+  effect-opens =
+      fine-opens h ts b ok (slip-fine h ts b e v .0) _ _ whole
+      (changes-apart slip h ts b e (e .kind) (kind-from slip h ts b e v) (kind-to slip h ts b e v)) (slip-fine h ts b e v .1)
+
+  pub slip-keeps : slipSound h ts (effect slip h ts b e) ≡ true
+  unfolding effect
+  slip-keeps =
+      slip-sound-test h ts (effect slip h ts b e)
+      (fine-slip-sound h ts b ok (slip-fine h ts b e v .0) _ _ whole
+      (changes-apart slip h ts b e (e .kind) (kind-from slip h ts b e v) (kind-to slip h ts b e v)) (slip-fine h ts b e v .1)
+      (plain-keeps h ts (openBook h ts b) e v′))
+
+-- ---- any step, and any number of them
+pub record SameStep (h : Hall) (ts b : List ℕ) (e : Entry) : Type 0 where
+  pub numbers : step slip h ts b e .number ≡ step plain h ts (openBook h ts b) e .number
+  pub books : openBook h ts (step slip h ts b e .cells) ≡ step plain h ts (openBook h ts b) e .cells
+
+pub same-step : (h : Hall) (ts b : List ℕ) (e : Entry) → slipSound h ts b ≡ true → SameStep h ts b e
+same-step h ts b e good =
+    let numbers : step slip h ts b e .number ≡ step plain h ts (openBook h ts b) e .number =
+    step-verdict slip h ts b e ∙ same-verdict h ts b e good ∙ sym (step-verdict plain h ts (openBook h ts b) e) in
+    record {
+      numbers = numbers;
+      books =
+          ⊎-elim
+          (λ (z : step slip h ts b e .number ≡ 0).
+          ap (openBook h ts) (step-granted slip h ts b e z)
+          ∙ effect-opens h ts b e (sym (step-verdict slip h ts b e) ∙ z)
+          ∙ sym (step-granted plain h ts (openBook h ts b) e (sym numbers ∙ z)))
+          (λ (z : step slip h ts b e .number ≡ 0 → ⊥).
+          ap (openBook h ts) (step-refused slip h ts b e z)
+          ∙ sym (step-refused plain h ts (openBook h ts b) e (λ q. z (numbers ∙ q))))
+          (same (step slip h ts b e .number) 0);
+    }
+
+pub record SameRun (h : Hall) (ts b : List ℕ) (es : List Entry) : Type 0 where
+  pub verdicts : steps slip h ts b es .verdicts ≡ steps plain h ts (openBook h ts b) es .verdicts
+  pub books : openBook h ts (steps slip h ts b es .book) ≡ steps plain h ts (openBook h ts b) es .book
+
+pub same-run : (h : Hall) (ts b : List ℕ) (es : List Entry) → slipSound h ts b ≡ true → SameRun h ts b es
+unfolding steps
+same-run h ts b [] good = record { verdicts = refl; books = refl }
+same-run h ts b (e ∷ es) good =
+    let one : SameStep h ts b e = same-step h ts b e good in
+    let b′ : List ℕ = step slip h ts b e .cells in
+    let rest : SameRun h ts (step slip h ts b e .cells) es = same-run h ts (step slip h ts b e .cells) es (step-keeps slip slip-keeps h ts b e good) in
+    record {
+      verdicts =
+          ap (λ (n : ℕ). n ∷ steps slip h ts b′ es .verdicts) (one .numbers)
+          ∙ ap (λ (ns : List ℕ). step plain h ts (openBook h ts b) e .number ∷ ns)
+          (rest .verdicts ∙ ap (λ (x : List ℕ). steps plain h ts x es .verdicts) (one .books));
+      books = rest .books ∙ ap (λ (x : List ℕ). steps plain h ts x es .book) (one .books);
+    }

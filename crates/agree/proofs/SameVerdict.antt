@@ -1,0 +1,128 @@
+-- A sound slip book and its opened book get the same verdict.
+use mathlib.Core.Path.{_≡_, refl, ap, _∙_}
+use Prim.Native.Nat.{_≤_, _<_}
+use native.Mathlib.Omega.{arith}
+use borrow.Author.Tests.{eqb-true, not-false}
+use Rattle.rules.specs.declared.Hall.{Hall}
+use Rattle.rules.specs.declared.Entry.{Entry}
+use Rattle.rules.specs.Lists.{ℕ, Bool, true, false, not, _&&_, _||_, eqb, List, _∷_, length, drop, getD, occ, isIn, every}
+use Rattle.rules.specs.Hall.{mostHeld, Carnet, View, BenchView, Till, Line, number, records}
+use Rattle.rules.specs.Answers.{Rule, _⇐_, first}
+use Rattle.rules.specs.Records.{inUse, amount, count, sales, cells, held, recordAt}
+use Rattle.rules.specs.Tape.{BenchAuthenticates, DeskAuthenticates, Clear, kindOf, is, usesBench, usesCustomer, wellFormed, inHall, entryRules}
+use Rattle.rules.specs.Form.{plain}
+use Rattle.rules.specs.Slips.{slipTokens, openBook, slipSound, slip}
+use Rattle.rules.specs.Steps.{dealt, theView, theBenchView, theTill, theLine}
+use Rattle.rules.specs.Verdicts.{authenticates, table, verdict}
+use Rattle.laws.proofs.Reflect.{Book, sound-facts}
+use Rattle.laws.proofs.Books.{facts-at, dealt-few}
+use Rattle.laws.proofs.Places.{inside-below}
+use Rattle.laws.proofs.Opened.{open-same, open-line, open-word, opened-use, opened-amount, opened-count, opened-sales}
+use Rattle.laws.proofs.ReflectSlips.{SlipSound, slip-sound-facts, slip-line-facts}
+use Rattle.rules.proofs.Granted.{inside-hall-bench, inside-hall-customer}
+use Rattle.agree.proofs.SlipLines.{open-held}
+
+-- ---- tables that answer alike
+first-cons : (n : ℕ) (test : Bool) (rs rs′ : List Rule) → (test ≡ false → first rs ≡ first rs′) → first ((n ⇐ test) ∷ rs) ≡ first ((n ⇐ test) ∷ rs′)
+unfolding first
+first-cons n true rs rs′ e = refl
+first-cons n false rs rs′ e = e refl
+
+under : (a x y : Bool) → (a ≡ true → x ≡ y) → a && x ≡ a && y
+under true x y e = e refl
+under false x y e = refl
+
+either : (a b c : Bool) → a || b ≡ true → (a ≡ true → c ≡ true) → (b ≡ true → c ≡ true) → c ≡ true
+either true b c e p q = p refl
+either false b c e p q = q e
+
+-- ---- a sound slip book and its opened book, word by word
+module _ (h : Hall) (ts b : List ℕ) (ok : SlipSound h ts b) where
+  abbrev o : List ℕ
+  o = openBook h ts b
+
+  pub opened-book : Book h ts (openBook h ts b)
+  opened-book = sound-facts h ts (openBook h ts b) (ok .opens)
+
+  pub word-use : (k : ℕ) → inUse (recordAt k o) ≡ inUse (recordAt k b)
+  word-use = open-word h ts b (ok .long) inUse (opened-use ts)
+
+  pub word-amount : (k : ℕ) → amount (recordAt k o) ≡ amount (recordAt k b)
+  word-amount = open-word h ts b (ok .long) amount (opened-amount ts)
+
+  pub word-count : (k : ℕ) → count (recordAt k o) ≡ count (recordAt k b)
+  word-count = open-word h ts b (ok .long) count (opened-count ts)
+
+  pub word-sales : (k : ℕ) → sales (recordAt k o) ≡ sales (recordAt k b)
+  word-sales = open-word h ts b (ok .long) sales (opened-sales ts)
+
+  pub dealt-small : dealt b ≤ length ts
+  dealt-small = omega (arith, word-amount 0, dealt-few h ts o opened-book)
+
+  pub count-small : (k : ℕ) → k < records h → count (recordAt k b) ≤ mostHeld
+  count-small k l = omega (arith, word-count k, facts-at h ts o opened-book k l .short)
+
+  pub line-tokens : (k : ℕ) → number h (Line 0 0) ≤ k → k < records h → held (recordAt k o) ≡ slipTokens ts (recordAt k b)
+  line-tokens k l u =
+      ap held (open-line h ts b (ok .long) k l u)
+      ∙ open-held ts (dealt b) (recordAt k b) dealt-small (slip-line-facts ts (dealt b) (recordAt k b) (ok .lines k l u)) (count-small k u)
+
+-- ---- the verdict
+module _ (h : Hall) (ts b : List ℕ) (e : Entry) (good : slipSound h ts b ≡ true) where
+  ok : SlipSound h ts b
+  ok = slip-sound-facts h ts b good
+
+  -- the tests that read cells
+  same-first : inHall h e ≡ true
+      → authenticates e && not (eqb (getD (cells (theTill h (openBook h ts b) e)) 0 0) (getD (cells (theBenchView h (openBook h ts b) e)) 0 0))
+      ≡ authenticates e && not (eqb (getD (cells (theTill h b e)) 0 0) (getD (cells (theBenchView h b e)) 0 0))
+  unfolding occ
+  same-first p =
+      under (authenticates e) _ _ (λ k.
+      let u : usesBench (e .kind) ≡ true =
+      either (is e BenchAuthenticates) (is e DeskAuthenticates) _ k (λ q. ap usesBench (eqb-true (e .kind) (kindOf BenchAuthenticates) q)) (λ q. ap usesBench (eqb-true (e .kind) (kindOf DeskAuthenticates) q)) in
+      let m : e .bench < h .benches = inside-hall-bench h e p u in
+      rw (open-same h ts b (ok .long) (number h (Till (e .bench))) (omega arith), open-same h ts b (ok .long) (number h (BenchView (e .bench))) (omega arith)))
+
+  same-clear : inHall h e ≡ true
+      → is e Clear && not (every (λ t. isIn t (held (theView h (openBook h ts b) e))) (held (theLine h (openBook h ts b) e)))
+      ≡ is e Clear && not (every (λ t. isIn t (held (theView h b e))) (slipTokens ts (theLine h b e)))
+  unfolding occ
+  same-clear p =
+      under (is e Clear) _ _ (λ q.
+      let k : e .kind ≡ kindOf Clear = eqb-true _ _ q in
+      let m : e .bench < h .benches = inside-hall-bench h e p (ap usesBench k) in
+      let c : e .customer < h .customers = inside-hall-customer h e p (ap usesCustomer k) in
+      rw (
+        open-same h ts b (ok .long) (number h (View (e .customer))) (omega arith),
+        line-tokens h ts b ok (number h (Line (e .bench) (e .customer))) (omega arith) (inside-below h (Line (e .bench) (e .customer)) (m, c)),
+      ))
+
+  same-later : inHall h e ≡ true → first (drop 3 (table slip h ts b e)) ≡ first (drop 3 (table plain h ts (openBook h ts b) e))
+  unfolding table entryRules
+  same-later p =
+      rw (
+        word-use h ts b ok (number h (Carnet (e .customer))),
+        word-use h ts b ok (number h (Till (e .bench))),
+        word-use h ts b ok (number h (Line (e .bench) (e .customer))),
+        word-use h ts b ok (number h (BenchView (e .bench))),
+        word-use h ts b ok (number h (View (e .customer))),
+        word-amount h ts b ok (number h (View (e .customer))),
+        word-amount h ts b ok 0,
+        word-count h ts b ok (number h (View (e .customer))),
+        word-count h ts b ok (number h (Carnet (e .customer))),
+        word-count h ts b ok (number h (Line (e .bench) (e .customer))),
+        word-sales h ts b ok (number h (Line (e .bench) (e .customer))),
+        word-count h ts b ok (number h (Till (e .bench))),
+        word-count h ts b ok (number h (BenchView (e .bench))),
+        same-first p,
+        same-clear p,
+      )
+
+  pub same-verdict : verdict slip h ts b e ≡ verdict plain h ts (openBook h ts b) e
+  unfolding verdict first table entryRules
+  same-verdict =
+      rw (good, ok .opens)
+      (first-cons 2 (not (wellFormed e)) (drop 2 (table slip h ts b e)) (drop 2 (table plain h ts (openBook h ts b) e)) (λ w.
+      first-cons 3 (not (inHall h e)) (drop 3 (table slip h ts b e)) (drop 3 (table plain h ts (openBook h ts b) e)) (λ p.
+      same-later (not-false _ p))))

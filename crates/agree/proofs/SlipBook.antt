@@ -1,0 +1,71 @@
+-- The slip book, too, is kept sound; no tenant is touched by another's step or paid for another's sale; nothing sold changes nothing.
+use mathlib.Core.Path.{_≡_, refl, sym, ap, _∙_, subst}
+use native.Mathlib.Omega.{arith}
+use Prim.Native.Nat.{_<_}
+use Rattle.rules.specs.Lists.{ℕ, _*_, List, take}
+use Rattle.rules.specs.Hall.{Carnet, View, Line, number, records}
+use Rattle.rules.specs.Records.{words, inUse, amount, sales, cells, held, filled, made, recordAt}
+use Rattle.rules.specs.Slips.{openSlips, slipTokens, slipPairs, slipOf, openBook, slip}
+use Rattle.rules.specs.Steps.{dealt}
+use Rattle.laws.proofs.Blocks.{block-long}
+use Rattle.laws.proofs.Made.{filled-is}
+use Rattle.laws.proofs.Reflect.{Book}
+use Rattle.laws.proofs.Books.{bare-at, line-at}
+use Rattle.laws.proofs.Places.{inside-below}
+use Rattle.laws.proofs.Opened.{open-same}
+use Rattle.laws.proofs.ReflectSlips.{SlipSound, slip-sound-facts, SlipLine, slip-line-facts}
+use Rattle.keeps.proofs.Keeps.{Kept, kept}
+use Rattle.keeps.proofs.Nothing.{Tidies, Still, still, made-as-it-stands}
+use Rattle.keeps.proofs.Tenants.{Tenants, tenants}
+use Rattle.agree.proofs.SlipLines.{tokens-length}
+use Rattle.agree.proofs.SameVerdict.{opened-book, word-amount, word-count, word-sales, dealt-small, count-small}
+use Rattle.agree.proofs.SameStep.{slip-sold, slip-regular}
+use Rattle.agree.proofs.SameRun.{slip-keeps}
+
+pub slip-kept : Kept slip
+slip-kept = kept slip slip-keeps
+
+pub slip-tenants : Tenants slip
+unfolding slipTokens openSlips made filled sales
+slip-tenants =
+    tenants slip slip-regular
+    record {
+      none = λ ts. (refl, refl);
+      sold = λ h ts b e v k. slip-sold h ts b e v k .opens;
+      counted = λ h ts b g m c i.
+          let ok : SlipSound h ts b = slip-sound-facts h ts b g in
+          let k : ℕ = number h (Line m c) in
+          let u : k < records h = inside-below h (Line m c) i in
+          tokens-length ts (dealt b) (recordAt k b) (dealt-small h ts b ok) (slip-line-facts ts (dealt b) (recordAt k b) (ok .lines k (omega arith) u)) (count-small h ts b ok k u);
+    }
+
+-- all records but the lines are those of the opened book
+slip-tidies : Tidies slip
+unfolding slipOf slipPairs slipTokens openSlips
+slip-tidies h ts b g =
+    let ok : SlipSound h ts b = slip-sound-facts h ts b g in
+    let o : List ℕ = openBook h ts b in
+    let okay : Book h ts (openBook h ts b) = opened-book h ts b ok in
+    let same : (k : ℕ) → k < number h (Line 0 0) → recordAt k (openBook h ts b) ≡ recordAt k b = open-same h ts b (ok .long) in
+    record {
+      no-sale = refl;
+      made-at = λ k l u.
+          subst (λ (r : List ℕ). inUse r ≡ 1 → r ≡ made (amount r) 0 (held r)) (same k (omega (arith, u))) (made-as-it-stands h ts o okay k l u);
+      no-amount = λ k l u. sym (ap amount (same k (omega (arith, u)))) ∙ bare-at h ts o okay k l u .0;
+      joined = λ c l.
+          sym (ap inUse (same (number h (Carnet c)) (omega (arith, l))))
+          ∙ okay .1 .parties .customers c l
+          ∙ ap inUse (same (number h (View c)) (omega (arith, l)));
+      filled-at = λ k l u i.
+          let s : SlipLine ts (dealt b) (recordAt k b) = slip-line-facts ts (dealt b) (recordAt k b) (ok .lines k l u) in
+          let a : amount (recordAt k b) ≡ 0 = sym (word-amount h ts b ok k) ∙ line-at h ts o okay k l u .no-amount in
+          filled-is (recordAt k b) (2 * sales (recordAt k b)) (block-long words k b (omega (arith, ok .long, u))) (omega (arith, s .few)) (s .past)
+          ∙ rw (i, a);
+      emptied = λ k l u z.
+          let n : sales (recordAt k b) ≡ 0 =
+          omega (arith, line-at h ts o okay k l u .sold, word-sales h ts b ok k, word-count h ts b ok k) in
+          (n, ap (λ (x : ℕ). openSlips ts x (cells (recordAt k b))) n, ap (λ (x : ℕ). take (2 * x) (cells (recordAt k b))) n);
+    }
+
+pub slip-still : Still slip
+slip-still = still slip slip-tidies

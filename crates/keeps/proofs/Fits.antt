@@ -1,0 +1,120 @@
+-- A granted step changes whole records inside the hall, all apart, and only the desk's and those of the parties it names.
+use mathlib.Core.Path.{_≡_, refl, sym, subst}
+use Prim.Native.Nat.{_≤_, _<_}
+use native.Mathlib.Omega.{arith}
+use lib.ListN.{length-append, length-take, length-drop}
+use Rattle.rules.specs.declared.Hall.{Hall}
+use Rattle.rules.specs.declared.Entry.{Entry}
+use Rattle.rules.specs.Lists.{ℕ, _*_, min, Bool, true, List, [], _++_, length, take, drop, occ, without}
+use Rattle.rules.specs.Hall.{mostHeld, Place, Desk, Carnet, View, BenchView, Till, Line, number, records}
+use Rattle.rules.specs.Records.{words, held, made, recordAt}
+use Rattle.rules.specs.Tape.{Sell, kindOf, usesBench, usesCustomer}
+use Rattle.rules.specs.Form.{Form, plain}
+use Rattle.rules.specs.Steps.{left, fresh, joining, dealing, updating, stocking, soldLine, selling, authenticating, clearing, changes, theCarnet, theView, theLine}
+use Rattle.rules.specs.Verdicts.{verdict}
+use Rattle.laws.proofs.Tokens.{without-short}
+use Rattle.laws.proofs.Made.{filled-long, made-long}
+use Rattle.laws.proofs.Reflect.{sound-facts}
+use Rattle.laws.proofs.Books.{held-few}
+use Rattle.laws.proofs.Places.{Inside}
+use Rattle.laws.proofs.Changes.{Each, each-both, Fit, apart}
+use Rattle.rules.proofs.Granted.{kinds, kind-from, kind-to, bench-inside, customer-inside, stock-few, update-room, sell-room}
+
+-- the desk's place, and those of the parties that a step of kind k names
+abbrev pub Named : Entry → ℕ → Place → Type 0
+Named e k Desk = Unit {0}
+Named e k (Carnet c) = (usesCustomer k ≡ true) × (c ≡ e .customer)
+Named e k (View c) = (usesCustomer k ≡ true) × (c ≡ e .customer)
+Named e k (BenchView m) = (usesBench k ≡ true) × (m ≡ e .bench)
+Named e k (Till m) = (usesBench k ≡ true) × (m ≡ e .bench)
+Named e k (Line m c) = ((usesBench k ≡ true) × (m ≡ e .bench)) × ((usesCustomer k ≡ true) × (c ≡ e .customer))
+
+module _ (f : Form) (h : Hall) (ts b : List ℕ) (e : Entry) where
+  pub changes-named : (k : ℕ) → 1 ≤ k → k ≤ 9 → Each (λ p r. Named e k p) (changes h b e f ts k)
+  unfolding changes joining dealing updating stocking selling authenticating clearing occ
+  changes-named =
+      let m : (_≡_ {A = Bool} true true) × (e .bench ≡ e .bench) = (refl, refl) in
+      let c : (_≡_ {A = Bool} true true) × (e .customer ≡ e .customer) = (refl, refl) in
+      kinds (λ k. Each (λ p r. Named e k p) (changes h b e f ts k))
+      (c, (c, tt))
+      (m, (m, tt))
+      ((m, c), tt)
+      (c, (c, (tt, tt)))
+      (m, (m, (tt, tt)))
+      (c, ((m, c), tt))
+      (m, (m, tt))
+      (m, (m, tt))
+      (c, (m, ((m, c), tt)))
+
+  pub changes-apart : (k : ℕ) → 1 ≤ k → k ≤ 9 → apart (changes h b e f ts k) ≡ true
+  unfolding changes joining dealing updating stocking selling authenticating clearing
+  changes-apart = kinds (λ k. apart (changes h b e f ts k) ≡ true) refl refl refl refl refl refl refl refl refl
+
+  module _ (v : verdict f h ts b e ≡ 0) where
+    its-customer : {c : ℕ} → (usesCustomer (e .kind) ≡ true) × (c ≡ e .customer) → c < h .customers
+    its-customer n = subst (λ (x : ℕ). x < h .customers) (sym (n .1)) (customer-inside f h ts b e v (n .0))
+
+    its-bench : {m : ℕ} → (usesBench (e .kind) ≡ true) × (m ≡ e .bench) → m < h .benches
+    its-bench n = subst (λ (x : ℕ). x < h .benches) (sym (n .1)) (bench-inside f h ts b e v (n .0))
+
+    named-inside : (p : Place) → Named e (e .kind) p → Inside h p
+    named-inside Desk n = tt
+    named-inside (Carnet c) n = its-customer n
+    named-inside (View c) n = its-customer n
+    named-inside (BenchView m) n = its-bench n
+    named-inside (Till m) n = its-bench n
+    named-inside (Line m c) n = (its-bench (n .0), its-customer (n .1))
+
+    -- records that are made of what a record holds, or of fresh tokens
+    few : (a n k : ℕ) → length (made a 0 (drop n (held (recordAt k b)))) ≡ words
+    few a n k = made-long a 0 (drop n (held (recordAt k b))) (simp length-drop (omega (arith, held-few k b)))
+
+    new : (a n : ℕ) → n ≤ mostHeld → length (made a 0 (fresh ts b n)) ≡ words
+    new a n l = made-long a 0 (fresh ts b n) (simp length-take (omega arith))
+
+    none : (a : ℕ) → length (made a 0 []) ≡ words
+    none a = made-long a 0 [] (omega arith)
+
+    changes-long : (e .kind ≡ kindOf Sell → length (soldLine h b e f) ≡ words) → Each (λ p r. length r ≡ words) (changes h b e f ts (e .kind))
+    unfolding changes joining dealing updating stocking selling authenticating clearing
+    changes-long sold =
+        kinds (λ k. e .kind ≡ k → Each (λ p r. length r ≡ words) (changes h b e f ts k))
+        (λ k. (none 0, (none _, tt)))
+        (λ k. (none 0, (none 0, tt)))
+        (λ k. (none 0, tt))
+        (λ k. (new 0 _ (update-room f h ts b e v k), (new _ _ (update-room f h ts b e v k), (none _, tt))))
+        (λ k.
+        let l : min (e .amount) (left ts b) ≤ mostHeld = omega (arith, stock-few f h ts b e v k) in
+        (new 0 (min (e .amount) (left ts b)) l, (new _ (min (e .amount) (left ts b)) l, (none _, tt))))
+        (λ k. (few 0 (e .amount) _, (sold k, tt)))
+        (λ k. (few 0 1 _, (few _ 1 _, tt)))
+        (λ k. (few 0 1 _, (few _ 1 _, tt)))
+        (λ k.
+        let t : List ℕ = f .tokens ts (theLine h b e) in (
+          made-long _ 0 (without t (held (theView h b e))) (omega (arith, without-short t (held (theView h b e)), held-few (number h (View (e .customer))) b)),
+          (few _ 0 _, (none 0, tt)),
+        ))
+        (e .kind) (kind-from f h ts b e v) (kind-to f h ts b e v) refl
+
+-- what each form shows of itself: a sound book has the right length, and a line after a granted sale is a whole record
+pub record Regular (f : Form) : Type 0 where
+  pub long : (h : Hall) (ts b : List ℕ) → f .good h ts b ≡ true → length b ≡ words * records h
+  pub whole : (h : Hall) (ts b : List ℕ) (e : Entry) → verdict f h ts b e ≡ 0 → e .kind ≡ kindOf Sell → length (soldLine h b e f) ≡ words
+
+pub fits : (f : Form) → Regular f → (h : Hall) (ts b : List ℕ) (e : Entry) → verdict f h ts b e ≡ 0 → Each (Fit h) (changes h b e f ts (e .kind))
+fits f regular h ts b e v =
+    each-both (λ p r. Named e (e .kind) p) (λ p r. length r ≡ words) (Fit h)
+    (λ p r n l. record { inside = named-inside f h ts b e v p n; long = l })
+    (changes h b e f ts (e .kind))
+    (changes-named f h ts b e (e .kind) (kind-from f h ts b e v) (kind-to f h ts b e v))
+    (changes-long f h ts b e v (regular .whole h ts b e v))
+
+pub plain-regular : Regular plain
+unfolding soldLine held
+plain-regular =
+    record {
+      long = λ h ts b g. sound-facts h ts b g .0;
+      whole = λ h ts b e v k.
+          filled-long 1 0 _ _ (take (e .amount) (held (theCarnet h b e)) ++ held (theLine h b e))
+          (simp (length-append, length-take) (omega (arith, sell-room plain h ts b e v k)));
+    }

@@ -1,0 +1,48 @@
+-- A step leaves every record of a party that it doesn't name, word for word: no bench is touched by another's step.
+use mathlib.Core.Path.{_≡_, sym, ap, _∙_}
+use mathlib.Core.Logic.{⊎-elim}
+use Prim.Native.Nat.{_<_}
+use Rattle.rules.specs.declared.Hall.{Hall}
+use Rattle.rules.specs.declared.Entry.{Entry}
+use Rattle.rules.specs.Lists.{ℕ, true, List}
+use Rattle.rules.specs.Hall.{Place, BenchView, Till, Line}
+use Rattle.rules.specs.Tape.{usesBench}
+use Rattle.rules.specs.Form.{Form}
+use Rattle.rules.specs.Steps.{changes, effect}
+use Rattle.rules.specs.Verdicts.{verdict, step}
+use Rattle.rules.proofs.Tests.{same}
+use Rattle.rules.proofs.Stepping.{step-granted, step-refused, step-verdict}
+use Rattle.laws.proofs.Places.{Inside}
+use Rattle.laws.proofs.Changes.{at, all-outside}
+use Rattle.rules.proofs.Granted.{granted-good, kind-from, kind-to}
+use Rattle.keeps.proofs.Fits.{Named, changes-named, Regular, fits}
+
+-- bench m's till, desk's view and lines are the same in two books
+pub record SameBench (h : Hall) (b b′ : List ℕ) (m : ℕ) : Type 0 where
+  pub till : at h b′ (Till m) ≡ at h b (Till m)
+  pub view : at h b′ (BenchView m) ≡ at h b (BenchView m)
+  pub lines : (c : ℕ) → c < h .customers → at h b′ (Line m c) ≡ at h b (Line m c)
+
+module _ (f : Form) (regular : Regular f) (h : Hall) (ts b : List ℕ) (e : Entry) where
+  pub isolation : (q : Place) → Inside h q → (Named e (e .kind) q → ⊥) → at h (step f h ts b e .cells) q ≡ at h b q
+  unfolding effect
+  isolation q i other =
+      ⊎-elim
+      (λ (z : step f h ts b e .number ≡ 0).
+      let v : verdict f h ts b e ≡ 0 = sym (step-verdict f h ts b e) ∙ z in
+      ap (λ (x : List ℕ). at h x q) (step-granted f h ts b e z)
+      ∙ all-outside h (Named e (e .kind)) (changes h b e f ts (e .kind)) b
+      (regular .long h ts b (granted-good f h ts b e v))
+      (fits f regular h ts b e v)
+      (changes-named f h ts b e (e .kind) (kind-from f h ts b e v) (kind-to f h ts b e v)) q i other)
+      (λ (z : step f h ts b e .number ≡ 0 → ⊥). ap (λ (x : List ℕ). at h x q) (step-refused f h ts b e z))
+      (same (step f h ts b e .number) 0)
+
+  -- a bench that the step doesn't name: any other than the one it names, and all of them where it names none
+  pub other-bench : (m : ℕ) → m < h .benches → (usesBench (e .kind) ≡ true → m ≡ e .bench → ⊥) → SameBench h b (step f h ts b e .cells) m
+  other-bench m i other =
+      record {
+        till = isolation (Till m) i (λ n. other (n .0) (n .1));
+        view = isolation (BenchView m) i (λ n. other (n .0) (n .1));
+        lines = λ c j. isolation (Line m c) (i, j) (λ n. other (n .0 .0) (n .0 .1));
+      }

@@ -1,0 +1,134 @@
+-- Soundness is kept: by every step of a plain book, and, in a form whose granted steps keep it, by every step and every run.
+use mathlib.Core.Path.{_≡_, refl, sym, ap, _∙_}
+use mathlib.Core.Logic.{⊎-elim}
+use Prim.Native.Nat.{_≤_, _<_}
+use native.Mathlib.Omega.{arith}
+use Rattle.rules.specs.declared.Hall.{Hall}
+use Rattle.rules.specs.declared.Entry.{Entry}
+use Rattle.rules.specs.Lists.{ℕ, _*_, true, _||_, eqb, List, [], _∷_, _++_, length, occ}
+use Rattle.rules.specs.Hall.{Carnet, View, Till, BenchView, Line, number}
+use Rattle.rules.specs.Records.{inUse, recordAt}
+use Rattle.rules.specs.Tape.{JoinCustomer, OpenLine, Sell, Clear, kindOf, usesBench, usesCustomer, entries}
+use Rattle.rules.specs.Form.{Form, plain}
+use Rattle.rules.specs.Steps.{changes, effect}
+use Rattle.rules.specs.Sound.{sound}
+use Rattle.rules.specs.Verdicts.{verdict, step, Ran, steps, run}
+use Rattle.rules.proofs.Tests.{same}
+use Rattle.rules.proofs.Stepping.{step-granted, step-refused, step-verdict}
+use Rattle.rules.proofs.Running.{then, steps-answer, run-does, run-granted, run-joined}
+use Rattle.laws.proofs.Reflect.{Book, sound-facts}
+use Rattle.laws.proofs.Books.{facts-at, line-at}
+use Rattle.laws.proofs.Places.{inside-below}
+use Rattle.laws.proofs.Changes.{Each, Fit}
+use Rattle.rules.proofs.Granted.{kinds, granted-good, kind-from, kind-to, bench-inside, customer-inside, new-customer, has-bench, has-customer, has-line, join-budget, stock-few, update-budget, update-room, update-left, sell-enough, sell-room, sell-few, clear-lives}
+use Rattle.keeps.proofs.Fits.{changes-apart, fits, plain-regular}
+use Rattle.keeps.proofs.Fine.{Fine, fine-keeps}
+use Rattle.keeps.proofs.FineKinds.{join-customer-fine, join-bench-fine, open-line-fine, update-fine, stock-fine, sell-fine, authenticate-fine, clear-fine}
+
+-- ---- the plain book
+module _ (h : Hall) (ts b : List ℕ) (e : Entry) (v : verdict plain h ts b e ≡ 0) where
+  ok : Book h ts b
+  ok = sound-facts h ts b (granted-good plain h ts b e v)
+
+  bench : (k : ℕ) → e .kind ≡ k → usesBench k ≡ true → e .bench < h .benches
+  bench k q u = bench-inside plain h ts b e v (ap usesBench q ∙ u)
+
+  customer : (k : ℕ) → e .kind ≡ k → usesCustomer k ≡ true → e .customer < h .customers
+  customer k q u = customer-inside plain h ts b e v (ap usesCustomer q ∙ u)
+
+  -- who has joined
+  hasB : (k : ℕ) → e .kind ≡ k → kindOf OpenLine ≤ k → usesBench k ≡ true → inUse (recordAt (number h (BenchView (e .bench))) b) ≡ 1
+  hasB k q l u = has-bench plain h ts b e v (omega arith) (ap usesBench q ∙ u)
+
+  hasV : (k : ℕ) → e .kind ≡ k → kindOf OpenLine ≤ k → usesCustomer k ≡ true → inUse (recordAt (number h (View (e .customer))) b) ≡ 1
+  hasV k q l u = has-customer plain h ts b e v (omega arith) (ap usesCustomer q ∙ u)
+
+  hasT : (k : ℕ) → e .kind ≡ k → kindOf OpenLine ≤ k → usesBench k ≡ true → inUse (recordAt (number h (Till (e .bench))) b) ≡ 1
+  hasT k q l u = ok .1 .parties .benches (e .bench) (bench k q u) ∙ hasB k q l u
+
+  hasC : (k : ℕ) → e .kind ≡ k → kindOf OpenLine ≤ k → usesCustomer k ≡ true → inUse (recordAt (number h (Carnet (e .customer))) b) ≡ 1
+  hasC k q l u = ok .1 .parties .customers (e .customer) (customer k q u) ∙ hasV k q l u
+
+  hasL : (k : ℕ) → e .kind ≡ k → eqb k (kindOf Sell) || eqb k (kindOf Clear) ≡ true → inUse (recordAt (number h (Line (e .bench) (e .customer))) b) ≡ 1
+  hasL k q u = has-line plain h ts b e v (ap (λ (i : ℕ). eqb i (kindOf Sell) || eqb i (kindOf Clear)) q ∙ u)
+
+  newC : e .kind ≡ kindOf JoinCustomer → e .customer < h .customers → inUse (recordAt (number h (Carnet (e .customer))) b) ≡ 0
+  newC q i =
+      let ne : inUse (recordAt (number h (Carnet (e .customer))) b) ≡ 1 → ⊥ = new-customer plain h ts b e v q in
+      omega (arith, facts-at h ts b ok (number h (Carnet (e .customer))) (inside-below h (Carnet (e .customer)) i) .flag)
+
+  abbrev Stepped : ℕ → Type 0
+  Stepped k = (d : ℕ) × ((n : ℕ) × Fine h ts b d n (changes h b e plain ts k))
+
+  step-fine : Each (Fit h) (changes h b e plain ts (e .kind)) → Stepped (e .kind)
+  unfolding changes occ
+  step-fine =
+      kinds (λ k. e .kind ≡ k → Each (Fit h) (changes h b e plain ts k) → Stepped k)
+      (λ q w. (_, (_, join-customer-fine h ts b e ok (customer 1 q refl) (newC q (customer 1 q refl)) (join-budget plain h ts b e v q))))
+      (λ q w. (_, (_, join-bench-fine h ts b e ok (bench 2 q refl))))
+      (λ q w. (_, (_, open-line-fine h ts b e ok (bench 3 q refl) (customer 3 q refl) (hasC 3 q (omega arith) refl) (hasT 3 q (omega arith) refl))))
+      (λ q w. (_, (_, update-fine h ts b e ok (customer 4 q refl) (hasV 4 q (omega arith) refl) (update-budget plain h ts b e v q) (update-room plain h ts b e v q) (update-left plain h ts b e v q) w)))
+      (λ q w. (_, (_, stock-fine h ts b e ok (bench 5 q refl) (hasB 5 q (omega arith) refl) (stock-few plain h ts b e v q) w)))
+      (λ q w.
+      let i : (e .bench < h .benches) × (e .customer < h .customers) = (bench 6 q refl, customer 6 q refl) in
+      let few = sell-few plain h ts b e v q (line-at h ts b ok (number h (Line (e .bench) (e .customer))) (omega arith) (inside-below h (Line (e .bench) (e .customer)) i) .few) in
+      (_, (_, sell-fine h ts b e ok (i .0) (i .1) (hasC 6 q (omega arith) refl) (hasL 6 q refl) (sell-enough plain h ts b e v q) (sell-room plain h ts b e v q) few w)))
+      (λ q w. (_, (_, authenticate-fine h ts b e ok (bench 7 q refl) (hasB 7 q (omega arith) refl) w)))
+      (λ q w. (_, (_, authenticate-fine h ts b e ok (bench 8 q refl) (hasB 8 q (omega arith) refl) w)))
+      (λ q w. (_, (_, clear-fine h ts b e ok (bench 9 q refl) (customer 9 q refl) (hasV 9 q (omega arith) refl) (hasB 9 q (omega arith) refl) (hasL 9 q refl) (clear-lives plain h ts b e v q) w)))
+      (e .kind) (kind-from plain h ts b e v) (kind-to plain h ts b e v) refl
+
+  pub plain-keeps : sound h ts (effect plain h ts b e) ≡ true
+  unfolding effect
+  plain-keeps =
+      let w : Each (Fit h) (changes h b e plain ts (e .kind)) = fits plain plain-regular h ts b e v in
+      fine-keeps h ts b ok _ _ (changes h b e plain ts (e .kind)) w
+      (changes-apart plain h ts b e (e .kind) (kind-from plain h ts b e v) (kind-to plain h ts b e v))
+      (step-fine w .1 .1)
+
+-- ---- a form whose granted steps keep its books sound
+abbrev pub Keeps : Form → Type 0
+Keeps f = (h : Hall) (ts b : List ℕ) (e : Entry) → verdict f h ts b e ≡ 0 → f .good h ts (effect f h ts b e) ≡ true
+
+module _ (f : Form) (keeps : Keeps f) (h : Hall) (ts : List ℕ) where
+  pub step-keeps : (b : List ℕ) (e : Entry) → f .good h ts b ≡ true → f .good h ts (step f h ts b e .cells) ≡ true
+  step-keeps b e good =
+      ⊎-elim
+      (λ (z : step f h ts b e .number ≡ 0).
+      ap (f .good h ts) (step-granted f h ts b e z) ∙ keeps h ts b e (sym (step-verdict f h ts b e) ∙ z))
+      (λ (z : step f h ts b e .number ≡ 0 → ⊥). ap (f .good h ts) (step-refused f h ts b e z) ∙ good)
+      (same (step f h ts b e .number) 0)
+
+  pub steps-keep : (b : List ℕ) (es : List Entry) → f .good h ts b ≡ true → f .good h ts (steps f h ts b es .book) ≡ true
+  unfolding steps
+  steps-keep b [] good = good
+  steps-keep b (e ∷ es) good = steps-keep (step f h ts b e .cells) es (step-keeps b e good)
+
+  run-keeps : (b tape out : List ℕ) → run f h ts b tape out .answer ≡ 0 → f .good h ts (run f h ts b tape out .book) ≡ true
+  run-keeps b tape out z =
+      let g = run-granted f h ts b tape out z in
+      ap (λ (r : Ran). f .good h ts (r .book)) (run-does f h ts b tape out (g .0) (g .1))
+      ∙ steps-keep b (entries (length out) tape) (g .0)
+
+  -- so a granted run over two tapes joined is one run after the other, whatever the second tape
+  run-goes-on : (b t t′ out out′ : List ℕ) → run f h ts b t out .answer ≡ 0 → length t′ ≡ 8 * length out′
+      → run f h ts b (t ++ t′) (out ++ out′) ≡ then (run f h ts b t out) (run f h ts (run f h ts b t out .book) t′ out′)
+  run-goes-on b t t′ out out′ z whole =
+      run-joined f h ts b t t′ out out′ z
+      (ap (λ (r : Ran). r .answer) (run-does f h ts (run f h ts b t out .book) t′ out′ (run-keeps b t out z) whole)
+      ∙ steps-answer f h ts (run f h ts b t out .book) (entries (length out′) t′))
+
+-- ---- so, of a form
+pub record Kept (f : Form) : Type 0 where
+  pub by-step : (h : Hall) (ts b : List ℕ) (e : Entry) → f .good h ts b ≡ true → f .good h ts (step f h ts b e .cells) ≡ true
+  pub by-steps : (h : Hall) (ts b : List ℕ) (es : List Entry) → f .good h ts b ≡ true → f .good h ts (steps f h ts b es .book) ≡ true
+  pub by-run : (h : Hall) (ts b tape out : List ℕ) → run f h ts b tape out .answer ≡ 0 → f .good h ts (run f h ts b tape out .book) ≡ true
+  pub goes-on : (h : Hall) (ts b t t′ out out′ : List ℕ) → run f h ts b t out .answer ≡ 0 → length t′ ≡ 8 * length out′
+      → run f h ts b (t ++ t′) (out ++ out′) ≡ then (run f h ts b t out) (run f h ts (run f h ts b t out .book) t′ out′)
+
+pub kept : (f : Form) → Keeps f → Kept f
+kept f keeps =
+    record { by-step = step-keeps f keeps; by-steps = steps-keep f keeps; by-run = run-keeps f keeps; goes-on = run-goes-on f keeps }
+
+pub plain-kept : Kept plain
+plain-kept = kept plain plain-keeps

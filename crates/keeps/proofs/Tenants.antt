@@ -1,0 +1,91 @@
+-- No tenant is touched by another's step or paid for another's sale.
+use mathlib.Core.Path.{_≡_, refl, sym, ap, _∙_}
+use Prim.Native.Nat.{_<_}
+use native.Mathlib.Omega.{arith}
+use borrow.Author.Tests.{eq-eqb}
+use Rattle.rules.specs.declared.Hall.{Hall}
+use Rattle.rules.specs.declared.Entry.{Entry}
+use Rattle.rules.specs.Lists.{ℕ, _+_, true, List, [], length, occ, isIn}
+use Rattle.rules.specs.Hall.{Carnet, BenchView, Line, number}
+use Rattle.rules.specs.Records.{amount, count, held}
+use Rattle.rules.specs.Sound.{emptyBook}
+use Rattle.rules.specs.Tape.{Clear, kindOf, usesBench, usesCustomer}
+use Rattle.rules.specs.Form.{Form, plain}
+use Rattle.rules.specs.Steps.{clearing, changes, effect, theLine}
+use Rattle.rules.specs.Verdicts.{verdict, step, steps}
+use Rattle.rules.proofs.Stepping.{step-granted, step-verdict, sold-before}
+use Rattle.rules.proofs.Granted.{granted-good, kind-from, kind-to, bench-inside, customer-inside, sell-enough}
+use Rattle.laws.proofs.Made.{made-amount, made-held}
+use Rattle.laws.proofs.Reflect.{sound-facts}
+use Rattle.laws.proofs.Books.{full-at}
+use Rattle.laws.proofs.Places.{inside-below}
+use Rattle.laws.proofs.Changes.{at, lookup, all-at}
+use Rattle.keeps.proofs.Fits.{Regular, fits, changes-apart, plain-regular}
+use Rattle.keeps.proofs.Isolation.{SameBench, other-bench}
+use Rattle.keeps.proofs.Origin.{Lines, Sold, sold-there}
+
+-- what a clear of the step e, taken in book b after the steps es from empty, credits its bench: the line's tokens, each of them sold there by that customer
+pub record Credit (f : Form) (h : Hall) (ts b : List ℕ) (es : List Entry) (e : Entry) : Type 0 where
+  pub balance : amount (at h (step f h ts b e .cells) (BenchView (e .bench))) ≡ amount (at h b (BenchView (e .bench))) + length (f .tokens ts (theLine h b e))
+  pub sold : (t : ℕ) → isIn t (f .tokens ts (theLine h b e)) ≡ true → Sold f h ts (e .bench) (e .customer) t (emptyBook h) es
+
+pub record Tenants (f : Form) : Type 0 where
+  -- a step leaves the till, the desk's view and the lines of every bench that it doesn't name
+  pub apart : (h : Hall) (ts b : List ℕ) (e : Entry) (m : ℕ) → m < h .benches → (usesBench (e .kind) ≡ true → m ≡ e .bench → ⊥) → SameBench h b (step f h ts b e .cells) m
+  -- a granted clear, after any steps from empty, credits what was sold at its own bench
+  pub paid : (h : Hall) (ts : List ℕ) (es : List Entry) (e : Entry) → verdict f h ts (steps f h ts (emptyBook h) es .book) e ≡ 0 → e .kind ≡ kindOf Clear
+      → Credit f h ts (steps f h ts (emptyBook h) es .book) es e
+
+module _ (f : Form) (regular : Regular f) (line : Lines f) (h : Hall) (ts b : List ℕ) (e : Entry) (v : verdict f h ts b e ≡ 0) (k : e .kind ≡ kindOf Clear) where
+  m-in : e .bench < h .benches
+  unfolding occ
+  m-in = bench-inside f h ts b e v (ap usesBench k)
+
+  c-in : e .customer < h .customers
+  unfolding occ
+  c-in = customer-inside f h ts b e v (ap usesCustomer k)
+
+  credits : amount (lookup (changes h b e f ts (kindOf Clear)) (at h b) (BenchView (e .bench))) ≡ amount (at h b (BenchView (e .bench))) + count (theLine h b e)
+  unfolding changes clearing
+  credits = rw (eq-eqb (e .bench) (e .bench) refl) (made-amount _ 0 _)
+
+  balance : amount (at h (step f h ts b e .cells) (BenchView (e .bench))) ≡ amount (at h b (BenchView (e .bench))) + length (f .tokens ts (theLine h b e))
+  unfolding effect
+  balance =
+      let good : f .good h ts b ≡ true = granted-good f h ts b e v in
+      ap (λ (x : List ℕ). amount (at h x (BenchView (e .bench)))) (step-granted f h ts b e (step-verdict f h ts b e ∙ v))
+      ∙ ap amount
+      (all-at h (changes h b e f ts (e .kind)) b (regular .long h ts b good) (fits f regular h ts b e v)
+      (changes-apart f h ts b e (e .kind) (kind-from f h ts b e v) (kind-to f h ts b e v)) (BenchView (e .bench)) m-in)
+      ∙ ap (λ (i : ℕ). amount (lookup (changes h b e f ts i) (at h b) (BenchView (e .bench)))) k
+      ∙ credits
+      ∙ ap (λ (n : ℕ). amount (at h b (BenchView (e .bench))) + n) (sym (line .counted h ts b good (e .bench) (e .customer) (m-in, c-in)))
+
+pub tenants : (f : Form) → Regular f → Lines f → Tenants f
+tenants f regular line =
+    record {
+      apart = other-bench f regular;
+      paid = λ h ts es e v k.
+          let b : List ℕ = steps f h ts (emptyBook h) es .book in
+          record {
+            balance = balance f regular line h ts b e v k;
+            sold = λ t i. sold-there f regular line h ts (e .bench) (e .customer) t (m-in f regular line h ts b e v k, c-in f regular line h ts b e v k) es i;
+          };
+    }
+
+-- ---- the plain book
+pub plain-tenants : Tenants plain
+unfolding held count occ
+plain-tenants =
+    tenants plain plain-regular
+    record {
+      none = λ ts. (refl, made-held 0 0 []);
+      sold = λ h ts b e v k.
+          let ok = sound-facts h ts b (granted-good plain h ts b e v) in
+          let c : e .customer < h .customers = customer-inside plain h ts b e v (ap usesCustomer k) in
+          let m : e .bench < h .benches = bench-inside plain h ts b e v (ap usesBench k) in
+          sold-before h b e
+          (omega (arith, full-at h ts b ok (number h (Carnet (e .customer))) (omega arith), sell-enough plain h ts b e v k))
+          (full-at h ts b ok (number h (Line (e .bench) (e .customer))) (inside-below h (Line (e .bench) (e .customer)) (m, c)));
+      counted = λ h ts b g m c i. full-at h ts b (sound-facts h ts b g) (number h (Line m c)) (inside-below h (Line m c) i);
+    }

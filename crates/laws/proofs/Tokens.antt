@@ -1,0 +1,119 @@
+-- Tokens of a list: a test of each, those that stand in another list, and those that are left without another's.
+use mathlib.Core.Path.{_≡_, refl, sym, ap, _∙_}
+use mathlib.Core.Logic.{⊎-elim}
+use Prim.Native.Nat.{_≤_, _<_}
+use native.Mathlib.Omega.{arith}
+use lib.Seq.{take-add}
+use borrow.Author.Tests.{eqb-true, ltb-true, lt-ltb, le-ltb}
+use Rattle.rules.specs.Lists.{ℕ, zero, suc, _+_, Bool, true, false, cond, ltb, eqb, List, [], _∷_, _++_, length, take, drop, every, occ, isIn, allDifferent, without}
+use Rattle.rules.proofs.Tests.{same, and-left, and-right, true-and}
+use Rattle.laws.proofs.Occurrences.{occ-equal, occ-unequal, occ-append}
+
+-- ---- a test of each
+module _ (test : ℕ → Bool) where
+  pub every-append : (xs ys : List ℕ) → every test xs ≡ true → every test ys ≡ true → every test (xs ++ ys) ≡ true
+  unfolding every
+  every-append [] ys p q = q
+  every-append (x ∷ xs) ys p q =
+      true-and _ _ (and-left (test x) _ p) (every-append xs ys (and-right (test x) _ p) q)
+
+  pub every-take : (n : ℕ) (xs : List ℕ) → every test xs ≡ true → every test (take n xs) ≡ true
+  unfolding every
+  every-take zero xs p = refl
+  every-take (suc n) [] p = refl
+  every-take (suc n) (x ∷ xs) p = true-and _ _ (and-left (test x) _ p) (every-take n xs (and-right (test x) _ p))
+
+  pub every-drop : (n : ℕ) (xs : List ℕ) → every test xs ≡ true → every test (drop n xs) ≡ true
+  unfolding every
+  every-drop zero xs p = p
+  every-drop (suc n) [] p = refl
+  every-drop (suc n) (x ∷ xs) p = every-drop n xs (and-right (test x) _ p)
+
+  pub every-without : (ys xs : List ℕ) → every test xs ≡ true → every test (without ys xs) ≡ true
+  unfolding every without
+  every-without ys [] p = refl
+  every-without ys (x ∷ xs) p = go (isIn x ys) (and-left (test x) _ p) (every-without ys xs (and-right (test x) _ p))
+    where
+      go : (t : Bool) → test x ≡ true → every test (without ys xs) ≡ true → every test (cond t (without ys xs) (x ∷ without ys xs)) ≡ true
+      go true p q = q
+      go false p q = true-and _ _ p q
+
+-- ---- each of xs stands in ys
+pub every-none : (t : ℕ) (xs ys : List ℕ) → every (λ x. isIn x ys) xs ≡ true → occ t ys ≡ 0 → occ t xs ≡ 0
+unfolding every occ
+every-none t [] ys e z = refl
+every-none t (x ∷ xs) ys e z =
+    let l : 0 < occ x ys = ltb-true _ _ (and-left (isIn x ys) _ e) in
+    let ne : t ≡ x → ⊥ = λ q. omega (arith, ap (λ (i : ℕ). occ i ys) q) in
+    occ-unequal t x xs ne ∙ every-none t xs ys (and-right (isIn x ys) _ e) z
+
+pub every-more : (xs ys zs : List ℕ) → ((t : ℕ) → occ t ys ≤ occ t zs) → every (λ x. isIn x ys) xs ≡ true → every (λ x. isIn x zs) xs ≡ true
+unfolding every
+every-more [] ys zs l e = refl
+every-more (x ∷ xs) ys zs l e =
+    let q : 0 < occ x zs = omega (arith, ltb-true 0 (occ x ys) (and-left (isIn x ys) _ e), l x) in
+    true-and _ _ (lt-ltb _ _ q) (every-more xs ys zs l (and-right (isIn x ys) _ e))
+
+pub every-self : (xs ys : List ℕ) → ((t : ℕ) → occ t xs ≤ occ t ys) → every (λ x. isIn x ys) xs ≡ true
+unfolding every occ
+every-self [] ys l = refl
+every-self (x ∷ xs) ys l =
+    let q : 0 < occ x ys = omega (arith, l x, occ-equal x x xs refl) in
+    true-and _ _ (lt-ltb _ _ q) (every-self xs ys (λ t. omega (arith, l t)))
+
+pub take-occ : (ts : List ℕ) (d n t : ℕ) → occ t (take (d + n) ts) ≡ occ t (take d ts) + occ t (take n (drop d ts))
+take-occ ts d n t = ap (occ t) (take-add d n ts) ∙ occ-append t (take d ts) (take n (drop d ts))
+
+-- ---- what is left without ys
+pub without-occ : (t : ℕ) (ys xs : List ℕ) → occ t (without ys xs) ≤ occ t xs
+unfolding without occ
+without-occ t ys [] = omega arith
+without-occ t ys (x ∷ xs) = go (isIn x ys) (without-occ t ys xs)
+  where
+    go : (a : Bool) → occ t (without ys xs) ≤ occ t xs → occ t (cond a (without ys xs) (x ∷ without ys xs)) ≤ occ t (x ∷ xs)
+    go true l = omega arith
+    go false l = omega arith
+
+pub without-short : (ys xs : List ℕ) → length (without ys xs) ≤ length xs
+unfolding without
+without-short ys [] = omega arith
+without-short ys (x ∷ xs) = go (isIn x ys) (without-short ys xs)
+  where
+    go : (t : Bool) → length (without ys xs) ≤ length xs → length (cond t (without ys xs) (x ∷ without ys xs)) ≤ suc (length xs)
+    go true l = omega arith
+    go false l = omega arith
+
+-- one number more is struck
+without-one : (y : ℕ) (ys xs : List ℕ) → occ y ys ≡ 0 → length (without (y ∷ ys) xs) + occ y xs ≤ length (without ys xs)
+unfolding without occ
+without-one y ys [] z = omega arith
+without-one y ys (x ∷ xs) z =
+    let ih : length (without (y ∷ ys) xs) + occ y xs ≤ length (without ys xs) = without-one y ys xs z in
+    ⊎-elim
+    (λ (e : x ≡ y).
+    let inn : isIn x (y ∷ ys) ≡ true = lt-ltb 0 (occ x (y ∷ ys)) (omega (arith, occ-equal x y ys e)) in
+    let out : isIn x ys ≡ false = le-ltb 0 (occ x ys) (omega (arith, ap (λ (i : ℕ). occ i ys) e)) in
+    let o : occ y (x ∷ xs) ≡ suc (occ y xs) = occ-equal y x xs (sym e) ∙ ap (λ (i : ℕ). suc (occ i xs)) e in
+    struck (isIn x (y ∷ ys)) (isIn x ys) inn out ih o)
+    (λ (ne : x ≡ y → ⊥).
+    let o : occ y (x ∷ xs) ≡ occ y xs = occ-unequal y x xs (λ q. ne (sym q)) in
+    kept (isIn x ys) (isIn x (y ∷ ys)) (ap (λ (n : ℕ). ltb 0 n) (occ-unequal x y ys ne)) ih o)
+    (same x y)
+  where
+    Left : Bool → Bool → Type 0
+    Left a b = length (cond a (without (y ∷ ys) xs) (x ∷ without (y ∷ ys) xs)) + occ y (x ∷ xs) ≤ length (cond b (without ys xs) (x ∷ without ys xs))
+
+    struck : (a b : Bool) → a ≡ true → b ≡ false → length (without (y ∷ ys) xs) + occ y xs ≤ length (without ys xs) → occ y (x ∷ xs) ≡ suc (occ y xs) → Left a b
+    struck a b p q l o = rw (p, q) (omega arith)
+
+    kept : (b a : Bool) → a ≡ b → length (without (y ∷ ys) xs) + occ y xs ≤ length (without ys xs) → occ y (x ∷ xs) ≡ occ y xs → Left a b
+    kept true a p l o = rw p (omega arith)
+    kept false a p l o = rw p (omega arith)
+
+pub without-length : (ys xs : List ℕ) → allDifferent ys ≡ true → every (λ t. isIn t xs) ys ≡ true → length (without ys xs) + length ys ≤ length xs
+unfolding allDifferent every
+without-length [] xs d e = omega (arith, without-short [] xs)
+without-length (y ∷ ys) xs d e =
+    let z : occ y ys ≡ 0 = eqb-true _ _ (and-left (eqb (occ y ys) 0) _ d) in
+    let o : 0 < occ y xs = ltb-true _ _ (and-left (isIn y xs) _ e) in
+    omega (arith, without-one y ys xs z, without-length ys xs (and-right (eqb (occ y ys) 0) _ d) (and-right (isIn y xs) _ e))
