@@ -13,3 +13,4 @@ pub mod Changes
 pub mod Opened
 pub mod ReflectSlips
 pub mod Empty
+pub mod Parts

@@ -8,3 +8,4 @@ pub mod Running
 pub mod Words
 pub mod Writing
 pub mod Granted
+pub mod Searching

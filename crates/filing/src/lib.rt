@@ -1,0 +1,75 @@
+// A book on file: to bytes and back, in lent buffers. Lengths alone are tested.
+ghost use mathlib.Core.Path.{_≡_};
+ghost use Prim.Native.Nat.{_*_, _≤_};
+ghost use lib.ListN.{length};
+ghost use Rattle.rules.specs.Hall.{mainHall};
+ghost use Rattle.rules.specs.Bytes.{toBytes, toWords, writeBook, readBook};
+use rules::Hall;
+
+// Each word's four bytes, one word after the other.
+fn lay_bytes(out: &mut [u8], from: &[u32])
+    requires { ⌜ length (now out) ≡ 4 * length (now from) ⌝ }
+    ensures { λ _. ⌜ now (out .exit) ≡ toBytes (now (from .entry)) ⌝ }
+{
+    let mut i = 0;
+    while i < from.len() {
+        let at = 4 * i;
+        octets::put_word(out, at, from[i]);
+        i += 1;
+    }
+}
+
+fn lay_words(out: &mut [u32], from: &[u8])
+    requires { ⌜ length (now from) ≡ 4 * length (now out) ⌝ }
+    ensures { λ _. ⌜ now (out .exit) ≡ toWords (length (now (out .entry))) (now (from .entry)) ⌝ }
+{
+    let mut i = 0;
+    while i < out.len() {
+        let at = 4 * i;
+        out[i] = octets::word_at(from, at);
+        i += 1;
+    }
+}
+
+pub fn write_book_of(h: Hall, plain: &[u32], out: &mut [u8]) -> u8
+    requires { ⌜ (h .customers ≤ 64) × (h .benches ≤ 64) ⌝ }
+    ensures { λ r. ⌜ (r ≡ writeBook h (now (plain .entry)) (now (out .entry)) .number) × (now (out .exit) ≡ writeBook h (now (plain .entry)) (now (out .entry)) .cells) ⌝ }
+{
+    let n = book::book_words(h);
+    if plain.len() != n {
+        return 1;
+    }
+    if out.len() != 4 * n {
+        return 1;
+    }
+    lay_bytes(out, plain);
+    0
+}
+
+pub fn read_book_of(h: Hall, from: &[u8], out: &mut [u32]) -> u8
+    requires { ⌜ (h .customers ≤ 64) × (h .benches ≤ 64) ⌝ }
+    ensures { λ r. ⌜ (r ≡ readBook h (now (from .entry)) (now (out .entry)) .number) × (now (out .exit) ≡ readBook h (now (from .entry)) (now (out .entry)) .cells) ⌝ }
+{
+    let n = book::book_words(h);
+    if out.len() != n {
+        return 1;
+    }
+    if from.len() != 4 * n {
+        return 1;
+    }
+    lay_words(out, from);
+    0
+}
+
+// The main hall's book.
+pub fn write_book(plain: &[u32], out: &mut [u8]) -> u8
+    ensures { λ r. ⌜ (r ≡ writeBook mainHall (now (plain .entry)) (now (out .entry)) .number) × (now (out .exit) ≡ writeBook mainHall (now (plain .entry)) (now (out .entry)) .cells) ⌝ }
+{
+    write_book_of(book::MAIN, plain, out)
+}
+
+pub fn read_book(from: &[u8], out: &mut [u32]) -> u8
+    ensures { λ r. ⌜ (r ≡ readBook mainHall (now (from .entry)) (now (out .entry)) .number) × (now (out .exit) ≡ readBook mainHall (now (from .entry)) (now (out .entry)) .cells) ⌝ }
+{
+    read_book_of(book::MAIN, from, out)
+}

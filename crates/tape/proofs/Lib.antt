@@ -1,0 +1,6 @@
+pub mod Used
+pub mod Checks
+pub mod Eight
+pub mod Reader
+pub mod Writer
+pub mod RoundTrip
