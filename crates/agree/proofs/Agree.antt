@@ -17,14 +17,14 @@ use Rattle.laws.proofs.Opened.{open-same}
 use Rattle.laws.proofs.ReflectSlips.{SlipSound}
 use Rattle.agree.proofs.SameVerdict.{opened-book, word-use, word-count, word-sales, line-tokens}
 
--- a plain line p and a slip line s: the same word 0, count and sales, and the slips open to the plain line's tokens, in order
+-- a plain line p and a slip line s: as used, as full and as often sold to; opened, s holds p's tokens in p's order
 pub record SameLine (ts p s : List ℕ) : Type 0 where
   pub used : inUse p ≡ inUse s
   pub counts : count p ≡ count s
   pub sold : sales p ≡ sales s
   pub opens : held p ≡ slipTokens ts s
 
--- a plain book p and a slip book s: all records but the lines word for word, and each line as just said
+-- a plain book p and a slip book s: lines agree as above, and every other record is equal
 pub record Agree (h : Hall) (ts p s : List ℕ) : Type 0 where
   pub others : (k : ℕ) → k < number h (Line 0 0) → recordAt k p ≡ recordAt k s
   pub lines : (k : ℕ) → number h (Line 0 0) ≤ k → k < records h → SameLine ts (recordAt k p) (recordAt k s)

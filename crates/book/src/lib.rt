@@ -1,7 +1,7 @@
 // The book's records: each is read as a part of the book, and written as one by a single writer. And the empty book.
 ghost use mathlib.Core.Path.{_≡_};
 ghost use mathlib.Core.List.{_∷_, _++_};
-ghost use Prim.Native.Nat.{_+_, _*_, _-_, _≤_, min};
+ghost use Prim.Native.Nat.{_+_, _*_, _-_, _≤_};
 ghost use lib.ListN.{length, drop, replicate};
 ghost use Rattle.rules.specs.Hall.{mainHall, mostHeld, records};
 ghost use Rattle.rules.specs.Records.{words, inUse, amount, count, sales, cells, held, filled, made, recordAt, put};

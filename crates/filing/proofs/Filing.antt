@@ -6,15 +6,16 @@ use native.Mathlib.Numerals.{add-one}
 use native.Mathlib.Omega.{arith}
 use lib.ListN.{set, drop-of-length-le}
 use lib.Seq.{take-suc, take-all, drop-cons, take-at, drop-at, drop-drop, set-at, length-take-le}
-use borrow.Author.Tests.{eq-eqb, ne-eqb}
+use borrow.Author.Tests.{eqb-true}
 use Rattle.rules.specs.declared.Hall.{Hall}
-use Rattle.rules.specs.Lists.{ℕ, zero, suc, _+_, _*_, true, false, List, [], _∷_, _++_, length, take, drop, getD}
+use Rattle.rules.specs.Lists.{ℕ, zero, suc, _+_, _*_, Bool, true, false, _&&_, eqb, List, [], _∷_, _++_, length, take, drop, getD}
 use Rattle.rules.specs.Hall.{records}
-use Rattle.rules.specs.Answers.{first, Answer, answer}
+use Rattle.rules.specs.Answers.{first, answer}
 use Rattle.rules.specs.Records.{words}
 use Rattle.rules.specs.Sound.{fits}
-use Rattle.rules.specs.Bytes.{bytesOf, wordOf, toBytes, toWords, writeBook, readBook}
-use Rattle.rules.proofs.Words.{length-toBytes, length-toWords, write-book, read-book}
+use Rattle.rules.specs.Bytes.{bytesOf, wordOf, toBytes, toWords, lengths}
+use Rattle.rules.proofs.Words.{length-toBytes, length-toWords}
+use Rattle.rules.proofs.Tests.{and-right}
 
 -- ---- bytes of the first i words, and what stood behind them
 toBytes-append : (xs ys : List ℕ) → toBytes (xs ++ ys) ≡ toBytes xs ++ toBytes ys
@@ -67,40 +68,19 @@ words-next bs out₀ out i l e =
     ∙ ap (λ (x : List ℕ). x ++ drop (suc i) out₀) (sym (words-more i bs))
     ∙ ap (λ (n : ℕ). toWords n bs ++ drop n out₀) (sym (add-one i))
 
--- ---- the answers
-module _ (h : Hall) (b bs : List ℕ) (n : ℕ) (right : n ≡ words * records h) where
-  pub write-wrong-book : (length b ≡ n → ⊥) → (1 ≡ writeBook h b bs .number) × (bs ≡ writeBook h b bs .cells)
-  unfolding writeBook fits answer first
-  write-wrong-book ne = let e : fits h b ≡ false = rw (← right) (ne-eqb (length b) n ne) in (rw e, rw e)
+-- ---- the answers, of the test t of both lengths; new is what would be laid, old what stands there
+pub whole : (k m n : ℕ) (t : Bool) → t ≡ (eqb m k && eqb n (4 * m)) → t ≡ true → n ≡ 4 * m
+whole k m n t tests y = eqb-true n _ (and-right (eqb m k) _ (sym tests ∙ y))
 
-  pub read-wrong-book : (length b ≡ n → ⊥) → (1 ≡ readBook h bs b .number) × (b ≡ readBook h bs b .cells)
-  unfolding readBook fits answer first
-  read-wrong-book ne = let e : fits h b ≡ false = rw (← right) (ne-eqb (length b) n ne) in (rw e, rw e)
+module _ (h : Hall) (b bs : List ℕ) (t : Bool) (tests : t ≡ (eqb (length b) (words * records h) && eqb (length bs) (4 * length b))) (new old : List ℕ) where
+  pub wrong-length : t ≡ false → (1 ≡ answer (lengths h b bs) new old .number) × (old ≡ answer (lengths h b bs) new old .cells)
+  unfolding fits answer first
+  wrong-length n = let e = sym tests ∙ n in (rw e, rw e)
 
-  module _ (long : length b ≡ n) where
-    fit : fits h b ≡ true
-    unfolding fits
-    fit = eq-eqb (length b) _ (long ∙ right)
-
-    pub write-wrong-bytes : (length bs ≡ 4 * n → ⊥) → (1 ≡ writeBook h b bs .number) × (bs ≡ writeBook h b bs .cells)
-    unfolding writeBook answer first
-    write-wrong-bytes ne =
-        let w = ne-eqb (length bs) (4 * length b) (λ e. ne (e ∙ ap (λ (m : ℕ). 4 * m) long)) in (rw (fit, w), rw (fit, w))
-
-    pub read-wrong-bytes : (length bs ≡ 4 * n → ⊥) → (1 ≡ readBook h bs b .number) × (b ≡ readBook h bs b .cells)
-    unfolding readBook answer first
-    read-wrong-bytes ne =
-        let w = ne-eqb (length bs) (4 * length b) (λ e. ne (e ∙ ap (λ (m : ℕ). 4 * m) long)) in (rw (fit, w), rw (fit, w))
-
-    module _ (whole : length bs ≡ 4 * n) (new : List ℕ) where
-      four : length bs ≡ 4 * length b
-      four = whole ∙ ap (λ (m : ℕ). 4 * m) (sym long)
-
-      pub write-right : new ≡ toBytes b → (0 ≡ writeBook h b bs .number) × (new ≡ writeBook h b bs .cells)
-      write-right e = let w = write-book h b bs fit four in (sym (ap (λ (a : Answer). a .number) w), e ∙ sym (ap (λ (a : Answer). a .cells) w))
-
-      pub read-right : new ≡ toWords (length b) bs → (0 ≡ readBook h bs b .number) × (new ≡ readBook h bs b .cells)
-      read-right e = let w = read-book h b bs fit four in (sym (ap (λ (a : Answer). a .number) w), e ∙ sym (ap (λ (a : Answer). a .cells) w))
+  pub right-length : t ≡ true → (x : List ℕ) → x ≡ new
+      → (0 ≡ answer (lengths h b bs) new old .number) × (x ≡ answer (lengths h b bs) new old .cells)
+  unfolding fits answer first
+  right-length y x f = let e = sym tests ∙ y in (rw e, f ∙ rw e)
 
 -- ---- the loops' invariants: what the first i give, and where all are done
 pub record Bytes (ws out₀ out : List ℕ) (i : ℕ) : Type 0 where

@@ -2,7 +2,9 @@
 ghost use mathlib.Core.Path.{_≡_};
 ghost use Prim.Native.Nat.{_*_, _≤_};
 ghost use lib.ListN.{length};
-ghost use Rattle.rules.specs.Hall.{mainHall};
+ghost use Rattle.rules.specs.Lists.{_&&_, eqb};
+ghost use Rattle.rules.specs.Hall.{mainHall, records};
+ghost use Rattle.rules.specs.Records.{words};
 ghost use Rattle.rules.specs.Bytes.{toBytes, toWords, writeBook, readBook};
 use rules::Hall;
 
@@ -31,15 +33,22 @@ fn lay_words(out: &mut [u32], from: &[u8])
     }
 }
 
+// Whether a book of so many words, and its bytes, are as long as the hall asks.
+fn lengths_fit(h: Hall, in_words: usize, in_bytes: usize) -> bool
+    requires { ⌜ (h .customers ≤ 64) × (h .benches ≤ 64) ⌝ }
+    ensures { λ r. ⌜ r ≡ (eqb in_words (words * records h) && eqb in_bytes (4 * in_words)) ⌝ }
+{
+    if in_words != book::book_words(h) {
+        return false;
+    }
+    in_bytes == 4 * in_words
+}
+
 pub fn write_book_of(h: Hall, plain: &[u32], out: &mut [u8]) -> u8
     requires { ⌜ (h .customers ≤ 64) × (h .benches ≤ 64) ⌝ }
     ensures { λ r. ⌜ (r ≡ writeBook h (now (plain .entry)) (now (out .entry)) .number) × (now (out .exit) ≡ writeBook h (now (plain .entry)) (now (out .entry)) .cells) ⌝ }
 {
-    let n = book::book_words(h);
-    if plain.len() != n {
-        return 1;
-    }
-    if out.len() != 4 * n {
+    if !lengths_fit(h, plain.len(), out.len()) {
         return 1;
     }
     lay_bytes(out, plain);
@@ -50,11 +59,7 @@ pub fn read_book_of(h: Hall, from: &[u8], out: &mut [u32]) -> u8
     requires { ⌜ (h .customers ≤ 64) × (h .benches ≤ 64) ⌝ }
     ensures { λ r. ⌜ (r ≡ readBook h (now (from .entry)) (now (out .entry)) .number) × (now (out .exit) ≡ readBook h (now (from .entry)) (now (out .entry)) .cells) ⌝ }
 {
-    let n = book::book_words(h);
-    if out.len() != n {
-        return 1;
-    }
-    if from.len() != 4 * n {
+    if !lengths_fit(h, out.len(), from.len()) {
         return 1;
     }
     lay_words(out, from);

@@ -9,7 +9,7 @@ use Rattle.rules.specs.Lists.{ℕ, zero, suc, _+_, _*_, _/_, _%_, true, 
 use Rattle.rules.specs.Hall.{Hall}
 use Rattle.rules.specs.Answers.{first, Answer, answer}
 use Rattle.rules.specs.Sound.{fits}
-use Rattle.rules.specs.Bytes.{bytesOf, wordOf, toBytes, toWords, writeBook, readBook}
+use Rattle.rules.specs.Bytes.{bytesOf, wordOf, toBytes, toWords, lengths, writeBook, readBook}
 
 -- each number of the list is below n
 abbrev pub Below : ℕ → List ℕ → Type 0
@@ -84,13 +84,17 @@ length-toWords (suc n) bs = ap suc (length-toWords n (drop 4 bs))
 
 -- ---- a book of right length
 module _ (h : Hall) (b bs : List ℕ) (right : fits h b ≡ true) (whole : length bs ≡ 4 * length b) where
-  pub write-book : writeBook h b bs ≡ record { number = 0; cells = toBytes b }
-  unfolding writeBook answer first
-  write-book = rw (right, eq-eqb (length bs) (4 * length b) whole)
+  right-lengths : (new old : List ℕ) → answer (lengths h b bs) new old ≡ record { number = 0; cells = new }
+  unfolding answer first
+  right-lengths new old = rw (right, eq-eqb (length bs) (4 * length b) whole)
 
-  pub read-book : readBook h bs b ≡ record { number = 0; cells = toWords (length b) bs }
-  unfolding readBook answer first
-  read-book = rw (right, eq-eqb (length bs) (4 * length b) whole)
+  write-book : writeBook h b bs ≡ record { number = 0; cells = toBytes b }
+  unfolding writeBook
+  write-book = right-lengths (toBytes b) bs
+
+  read-book : readBook h bs b ≡ record { number = 0; cells = toWords (length b) bs }
+  unfolding readBook
+  read-book = right-lengths (toWords (length b) bs) b
 
 -- written out and read back it is the same
 pub book-back : (h : Hall) (b b′ bs : List ℕ) → fits h b ≡ true → fits h b′ ≡ true → length bs ≡ 4 * length b → Below wordTop b

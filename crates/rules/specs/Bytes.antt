@@ -1,7 +1,7 @@
 -- Words as bytes: four to a word, lowest first. And what asks for right lengths alone, and answers 1 without them.
 use Rattle.rules.specs.Lists.{ℕ, zero, suc, _+_, _*_, _/_, _%_, not, _&&_, eqb, List, [], _∷_, _++_, length, drop, getD}
 use Rattle.rules.specs.Hall.{Hall}
-use Rattle.rules.specs.Answers.{_⇐_, Answer, answer}
+use Rattle.rules.specs.Answers.{Rule, _⇐_, Answer, answer}
 use Rattle.rules.specs.Sound.{fits, emptyBook}
 
 unfoldable pub bytesOf : ℕ → List ℕ
@@ -20,11 +20,14 @@ toWords zero bs = []
 toWords (suc n) bs = wordOf bs ∷ toWords n (drop 4 bs)
 
 -- a book b to the bytes bs and back; a book that is read is not tested for soundness
+abbrev pub lengths : Hall → List ℕ → List ℕ → List Rule
+lengths h b bs = (1 ⇐ not (fits h b && eqb (length bs) (4 * length b))) ∷ []
+
 unfoldable pub writeBook : Hall → List ℕ → List ℕ → Answer
-writeBook h b bs = answer ((1 ⇐ not (fits h b && eqb (length bs) (4 * length b))) ∷ []) (toBytes b) bs
+writeBook h b bs = answer (lengths h b bs) (toBytes b) bs
 
 unfoldable pub readBook : Hall → List ℕ → List ℕ → Answer
-readBook h bs b = answer ((1 ⇐ not (fits h b && eqb (length bs) (4 * length b))) ∷ []) (toWords (length b) bs) b
+readBook h bs b = answer (lengths h b bs) (toWords (length b) bs) b
 
 unfoldable pub makeEmpty : Hall → List ℕ → Answer
 makeEmpty h b = answer ((1 ⇐ not (fits h b)) ∷ []) (emptyBook h) b

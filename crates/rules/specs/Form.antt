@@ -11,7 +11,7 @@ pub record Form : Type 0 where
   pub cells : List ℕ → List ℕ
   -- the cells that a sale of tokens puts before the older ones
   pub sale : List ℕ → List ℕ
-  -- the book is sound over a token list
+  -- whether a book is sound over a list
   pub good : Hall → List ℕ → List ℕ → Bool
 
 abbrev pub plain : Form

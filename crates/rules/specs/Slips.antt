@@ -1,4 +1,4 @@
--- The slip book: the same records, but a line's cells hold pairs (first token, count), newest first.
+-- The slip book: in a line a whole sale is one pair, its first token and how many.
 use Rattle.rules.specs.Lists.{ℕ, zero, suc, _+_, _*_, Bool, true, not, _&&_, leb, eqb, List, [], _∷_, _++_, length, take, drop, getD, every, allZero, placeOf, sameList}
 use Rattle.rules.specs.Hall.{Hall, mostHeld, mostSales, Line, number, records, carnets, lines}
 use Rattle.rules.specs.Answers.{_⇐_, Answer, answer}
@@ -11,7 +11,7 @@ use Rattle.rules.specs.Form.{Form}
 unfoldable pub openSlip : List ℕ → ℕ → ℕ → List ℕ
 openSlip ts t n = take n (drop (placeOf t ts) ts)
 
--- a line's slips: the newest followed by the rest, one slip fewer
+-- k slips of a line, newest first
 unfoldable pub openSlips : List ℕ → ℕ → List ℕ → List ℕ
 openSlips ts zero pairs = []
 openSlips ts (suc k) pairs = openSlip ts (getD pairs 0 0) (getD pairs 1 0) ++ openSlips ts k (drop 2 pairs)
@@ -38,7 +38,7 @@ unfoldable pub slipSum : ℕ → List ℕ → ℕ
 slipSum zero pairs = 0
 slipSum (suc k) pairs = getD pairs 1 0 + slipSum k (drop 2 pairs)
 
--- each of k slips counts 1 to 32 and opens within the d dealt tokens
+-- each of k slips is of some tokens, no more than a record holds, and all of them among the d dealt
 unfoldable pub slipsGood : List ℕ → ℕ → ℕ → List ℕ → Bool
 slipsGood ts d zero pairs = true
 slipsGood ts d (suc k) pairs =
@@ -46,13 +46,13 @@ slipsGood ts d (suc k) pairs =
     && leb (placeOf (getD pairs 0 0) ts + getD pairs 1 0) d
     && slipsGood ts d k (drop 2 pairs)
 
--- up to 16 slips, their number in word 3, the sum of their counts in word 2, unused pairs zero
+-- a line's words 2 and 3 are its slips' sum and number, and behind them is nothing
 unfoldable pub slipLineGood : List ℕ → ℕ → List ℕ → Bool
 slipLineGood ts d r =
     leb (sales r) mostSales && eqb (count r) (slipSum (sales r) (cells r))
     && slipsGood ts d (sales r) (cells r) && allZero (drop (2 * sales r) (cells r))
 
--- a carnet that is an unbroken run of the token list
+-- a carnet whose tokens stand side by side in the list, in that order
 unfoldable pub isRun : List ℕ → List ℕ → Bool
 isRun ts r = sameList (held r) (openSlip ts (getD (cells r) 0 0) (count r))
 
@@ -63,7 +63,7 @@ slipBy h ts at =
 unfoldable pub slipSound : Hall → List ℕ → List ℕ → Bool
 slipSound h ts b = fits h b && slipBy h ts (rows (records h) b) && sound h ts (openBook h ts b)
 
--- ---- the form: a sale is one pair, the first token sold and their number; a sale of none is no pair
+-- ---- the form: a sale is a slip, and a sale of none is no slip
 unfoldable pub slipOf : List ℕ → List ℕ
 slipOf [] = []
 slipOf (t ∷ ts) = t ∷ length (t ∷ ts) ∷ []

@@ -11,21 +11,21 @@ goodList ts = leb (length ts) mostTokens && allDifferent ts
 unfoldable pub fits : Hall → List ℕ → Bool
 fits h b = eqb (length b) (words * records h)
 
--- word 0 is 0 or 1, and a record not in use is all zero; the count is at most 32, and cells past it are zero
+-- in use, with 32 tokens or fewer and nothing behind them, or all zero
 unfoldable pub shaped : List ℕ → Bool
 shaped r =
     leb (inUse r) 1 && (eqb (inUse r) 1 || allZero r)
     && leb (count r) mostHeld && allZero (drop (count r) (cells r))
 
--- record 0 is in use, with dealt at most the list's length and the rest zero
+-- the desk: no more dealt than listed, and nothing else in its record
 unfoldable pub deskGood : List ℕ → List ℕ → Bool
 deskGood ts r = eqb (inUse r) 1 && leb (amount r) (length ts) && allZero (drop 2 r)
 
--- carnets and tills have amount 0; word 3 is zero
+-- no money and no sales here: carnets and tills
 unfoldable pub bare : List ℕ → Bool
 bare r = eqb (amount r) 0 && eqb (sales r) 0
 
--- lines have amount 0; their sales are at most 16, at most the count, and zero exactly when the count is
+-- a line: no money; its sales, 16 or fewer, have each brought a token, and its tokens came by some sale
 unfoldable pub lineGood : List ℕ → Bool
 lineGood r =
     eqb (amount r) 0
@@ -43,7 +43,7 @@ placeGood h ts k r =
 unfoldable pub recordGood : Hall → List ℕ → ℕ → ℕ → List ℕ → Bool
 recordGood h ts d k r = shaped r && every (λ t. isIn t (take d ts)) (held r) && placeGood h ts k r
 
--- carnet and desk's view in use together, till and desk's view likewise, a line only if both parties are
+-- a party is in use on both sides or on neither, and a line needs its two parties
 unfoldable pub partiesGood : Hall → (Place → ℕ) → Bool
 partiesGood h used =
     every (λ c. eqb (used (Carnet c)) (used (View c))) (range 0 (h .customers))
@@ -56,7 +56,7 @@ partiesGood h used =
 unfoldable pub onceIn : List ℕ → (ℕ → List ℕ) → Bool
 onceIn group at = allDifferent (joined (λ k. held (at k)) group)
 
--- budgets, balances and the desk's customer counts add up to at most 1,000,000 times the joined customers
+-- the money: what customers have left, what they carry and what benches earned came from the customers who joined
 unfoldable pub moneyGood : Hall → (ℕ → List ℕ) → Bool
 moneyGood h at =
     leb (sumOf (λ k. amount (at k)) (views h) + sumOf (λ k. count (at k)) (customerViews h))
@@ -74,6 +74,6 @@ soundBy h ts at =
 unfoldable pub sound : Hall → List ℕ → List ℕ → Bool
 sound h ts b = fits h b && soundBy h ts (rows (records h) b)
 
--- only record 0 in use, nothing dealt
+-- the desk's record alone
 unfoldable pub emptyBook : Hall → List ℕ
 emptyBook h = made 0 0 [] ++ replicate (words * (records h - 1)) 0

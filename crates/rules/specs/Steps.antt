@@ -52,17 +52,17 @@ module _ (h : Hall) (b : List ℕ) (e : Entry) where
   theLine = recordAt (number h (Line (e .bench) (e .customer))) b
 
   -- ---- the kinds that are neither a join nor an open
-  -- as many fresh tokens as the desk's view held, plus n; the budget falls by n
+  -- the view's count anew, whatever the carnet holds, and n more, which the budget pays for
   unfoldable pub updating : List ℕ → List Change
   updating ts =
       dealing ts b (Carnet (e .customer)) (View (e .customer)) (amount theView - e .amount) (count theView + e .amount)
 
-  -- the smaller of n and what is left is dealt
+  -- n, or what the list still has
   unfoldable pub stocking : List ℕ → List Change
   stocking ts =
       dealing ts b (Till (e .bench)) (BenchView (e .bench)) (amount theBenchView) (min (e .amount) (left ts b))
 
-  -- the first n carnet tokens go, in order, before the line's older ones; the sales grow by 1 if n is above 0
+  -- newest sale first; one of no tokens is not counted
   unfoldable pub soldLine : Form → List ℕ
   soldLine f =
       filled 1 0 (count theLine + e .amount) (sales theLine + min (e .amount) 1)
@@ -74,14 +74,14 @@ module _ (h : Hall) (b : List ℕ) (e : Entry) where
       ∷ (Line (e .bench) (e .customer) ≔ soldLine f)
       ∷ []
 
-  -- the first token of till and view goes from both
+  -- a token is used up, at the bench and at the desk
   unfoldable pub authenticating : List Change
   authenticating =
       (Till (e .bench) ≔ made 0 0 (drop 1 (held theTill)))
       ∷ (BenchView (e .bench) ≔ made (amount theBenchView) 0 (drop 1 (held theBenchView)))
       ∷ []
 
-  -- the line's tokens leave the desk's view, the balance grows by their number, the line becomes empty
+  -- the bench is paid for each token of the line, which then is spent for good
   unfoldable pub clearing : Form → List ℕ → List Change
   clearing f ts =
       (View (e .customer) ≔ made (amount theView) 0 (without (f .tokens ts theLine) (held theView)))

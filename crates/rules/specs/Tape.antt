@@ -5,7 +5,7 @@ use Rattle.rules.specs.Answers.{Rule, _⇐_, first, Answer, answer}
 use Rattle.rules.specs.Bytes.{bytesOf, wordOf}
 pub use Rattle.rules.specs.declared.Entry.{Entry}
 
--- ---- kind, bench, customer, zero, then the amount in four bytes
+-- ---- a record's five fields in its bytes
 unfoldable pub entryOf : List ℕ → Entry
 entryOf bs =
     record {
@@ -70,7 +70,7 @@ pub record Reading : Type 0 where
   pub entry : Entry
   pub next : ℕ
 
--- moved on by 8, also with 2 or 3; with fewer than 8 bytes left, or past the end, it stays and hands back zeros
+-- a refused record is passed over as a good one is; where no whole record stands, the place is kept and zeros are handed back
 unfoldable pub readAt : Hall → List ℕ → ℕ → Reading
 readAt h tape at =
     let e = entryOf (drop at tape) in

@@ -1,14 +1,14 @@
 // Lists of tokens: searching them, and laying tokens over lent cells. Every function takes every list.
 ghost use mathlib.Core.Path.{_≡_};
 ghost use Prim.Native.Nat.{min};
-ghost use lib.ListN.{length, take, drop, set, replicate};
+ghost use lib.ListN.{length, take, drop, set};
 ghost use mathlib.Core.List.{_++_};
 ghost use Rattle.rules.specs.Lists.{isIn, allDifferent, without, placeOf};
 ghost use Rattle.words.specs.Laid.{laid};
 
 // ---- searching
 
-// The first place of a token, or the list's length: a search that ends at its first hit.
+// The first place of a token, or the list's length where it has none.
 pub fn place_of(list: &[u32], token: u32) -> usize
     ensures { λ r. ⌜ r ≡ placeOf token (now (list .entry)) ⌝ }
 {

@@ -1,43 +1,33 @@
--- A wrong length of either is refused with 1.
-use Rattle.filing.proofs.Filing.{read-wrong-book, read-wrong-bytes, read-right}
 use borrow.Author.Needs.{needs}
+use borrow.Author.Tests.{not-true, not-false}
+use Rattle.rules.specs.Lists.{length}
+use Rattle.rules.specs.Bytes.{toWords, readBook}
+use Rattle.filing.proofs.Filing.{whole, wrong-length, right-length}
 use Rattle.filing.proofs.read_book_of.Statement.{statement}
 use Rattle.filing.proofs.read_book_of.Tie as tie
 
-book-words-requires : tie.Need-book-words-requires
-book-words-requires c κs = search needs
+lengths-fit-requires : tie.Need-lengths-fit-requires
+lengths-fit-requires c κs = search needs
 
 returns : tie.Need-returns
-returns c = let s = c .before .before .before .before in read-wrong-book (s .args .h) (s .args .out .now) (s .args .from .now) _ (c .before .book-words .ensures) (c .if1 .taken)
-
-mul-if2 : tie.Need-mul-if2
-mul-if2 c = search needs
-
-returns-2 : tie.Need-returns-2
-returns-2 c =
-    let s = c .before .before .before .before .before in
-    read-wrong-bytes (s .args .h) (s .args .out .now) (s .args .from .now) _ (c .before .before .book-words .ensures) (c .before .if1 .left) (c .if2 .taken)
+unfolding readBook
+returns c =
+    let s = c .before .before .before .before .args in
+    wrong-length _ _ (s .from .now) _ (c .before .lengths-fit .ensures) (toWords (length (s .out .now)) (s .from .now)) _ (not-true _ (c .if1 .taken))
 
 lay-words-requires : tie.Need-lay-words-requires
-lay-words-requires c κs = search needs
+lay-words-requires c κs = whole _ _ _ _ (c .before .before .lengths-fit .ensures) (not-false _ (c .before .if1 .left))
 
 same-length : tie.Need-same-length
 same-length c = search needs
 
-returns-3 : tie.Need-returns-3
-returns-3 c =
+returns-2 : tie.Need-returns-2
+unfolding readBook
+returns-2 c =
     let t = c .before .before .before .before in
-    let s = t .before .before .before .before .before in
-    read-right (s .args .h) (s .args .out .now) (s .args .from .now) _ (t .before .before .book-words .ensures) (t .before .if1 .left) (t .if2 .left) _ (c .before .before .lay-words .ensures)
+    let s = t .before .before .before .before .args in
+    right-length _ _ (s .from .now) _ (t .before .lengths-fit .ensures) _ (s .out .now) (not-false _ (t .if1 .left)) _ (c .before .before .lay-words .ensures)
 
 pub read-book-of-spec : {M : Type 1} → statement M
 read-book-of-spec =
-    tie.close
-    (tie.spec
-    book-words-requires
-    returns
-    mul-if2
-    returns-2
-    lay-words-requires
-    same-length
-    returns-3)
+    tie.close (tie.spec lengths-fit-requires returns lay-words-requires same-length returns-2)

@@ -1,43 +1,32 @@
--- A wrong length of either is refused with 1.
-use Rattle.filing.proofs.Filing.{write-wrong-book, write-wrong-bytes, write-right}
 use borrow.Author.Needs.{needs}
+use borrow.Author.Tests.{not-true, not-false}
+use Rattle.rules.specs.Bytes.{toBytes, writeBook}
+use Rattle.filing.proofs.Filing.{whole, wrong-length, right-length}
 use Rattle.filing.proofs.write_book_of.Statement.{statement}
 use Rattle.filing.proofs.write_book_of.Tie as tie
 
-book-words-requires : tie.Need-book-words-requires
-book-words-requires c κs = search needs
+lengths-fit-requires : tie.Need-lengths-fit-requires
+lengths-fit-requires c κs = search needs
 
 returns : tie.Need-returns
-returns c = let s = c .before .before .before .before in write-wrong-book (s .args .h) (s .args .plain .now) (s .args .out .now) _ (c .before .book-words .ensures) (c .if1 .taken)
-
-mul-if2 : tie.Need-mul-if2
-mul-if2 c = search needs
-
-returns-2 : tie.Need-returns-2
-returns-2 c =
-    let s = c .before .before .before .before .before in
-    write-wrong-bytes (s .args .h) (s .args .plain .now) (s .args .out .now) _ (c .before .before .book-words .ensures) (c .before .if1 .left) (c .if2 .taken)
+unfolding writeBook
+returns c =
+    let s = c .before .before .before .before .args in
+    wrong-length _ _ (s .out .now) _ (c .before .lengths-fit .ensures) (toBytes (s .plain .now)) _ (not-true _ (c .if1 .taken))
 
 lay-bytes-requires : tie.Need-lay-bytes-requires
-lay-bytes-requires c κs = search needs
+lay-bytes-requires c κs = whole _ _ _ _ (c .before .before .lengths-fit .ensures) (not-false _ (c .before .if1 .left))
 
 same-length : tie.Need-same-length
 same-length c = search needs
 
-returns-3 : tie.Need-returns-3
-returns-3 c =
+returns-2 : tie.Need-returns-2
+unfolding writeBook
+returns-2 c =
     let t = c .before .before .before .before in
-    let s = t .before .before .before .before .before in
-    write-right (s .args .h) (s .args .plain .now) (s .args .out .now) _ (t .before .before .book-words .ensures) (t .before .if1 .left) (t .if2 .left) _ (c .before .before .lay-bytes .ensures)
+    let s = t .before .before .before .before .args in
+    right-length _ _ (s .out .now) _ (t .before .lengths-fit .ensures) _ (s .out .now) (not-false _ (t .if1 .left)) _ (c .before .before .lay-bytes .ensures)
 
 pub write-book-of-spec : {M : Type 1} → statement M
 write-book-of-spec =
-    tie.close
-    (tie.spec
-    book-words-requires
-    returns
-    mul-if2
-    returns-2
-    lay-bytes-requires
-    same-length
-    returns-3)
+    tie.close (tie.spec lengths-fit-requires returns lay-bytes-requires same-length returns-2)
