@@ -1,5 +1,3 @@
-pub mod Runs
-pub mod SlipLines
 pub mod Sold
 pub mod SameVerdict
 pub mod OpenChanges

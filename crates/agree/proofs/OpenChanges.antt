@@ -16,7 +16,7 @@ use Rattle.laws.proofs.Places.{Inside, inside-below}
 use Rattle.laws.proofs.Changes.{at, Each, each-both, Fit, apart, lookup, put-long, put-here, put-off, all-long, all-at, all-each}
 use Rattle.laws.proofs.Opened.{opened-long, open-long, open-same, open-line}
 use Rattle.laws.proofs.ReflectSlips.{SlipSound}
-use Rattle.agree.proofs.SlipLines.{line-more}
+use Rattle.laws.proofs.SlipLines.{line-more}
 
 abbrev pub openPlace : List ℕ → Place → List ℕ → List ℕ
 openPlace ts Desk r = r

@@ -22,8 +22,8 @@ use Rattle.laws.proofs.Opened.{open-same}
 use Rattle.laws.proofs.ReflectSlips.{SlipSound, slip-sound-facts, slip-line-facts, slip-line-test}
 use Rattle.rules.proofs.Granted.{kinds, granted-good, kind-from, kind-to, bench-inside, customer-inside, update-left, sell-enough, sell-room, sell-few}
 use Rattle.keeps.proofs.Fits.{Regular}
-use Rattle.agree.proofs.Runs.{run-test, made-run, from, run-fits, run-drop}
-use Rattle.agree.proofs.SlipLines.{open-filled}
+use Rattle.laws.proofs.Runs.{run-test, made-run, from, run-fits, run-drop}
+use Rattle.laws.proofs.SlipLines.{open-filled}
 use Rattle.agree.proofs.Sold.{Sold, sold, carnet-part}
 use Rattle.agree.proofs.SameVerdict.{opened-book, word-amount, word-count, word-sales, dealt-small, line-tokens}
 use Rattle.agree.proofs.OpenChanges.{SlipFine}

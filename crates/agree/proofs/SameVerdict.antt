@@ -20,7 +20,7 @@ use Rattle.laws.proofs.Places.{inside-below}
 use Rattle.laws.proofs.Opened.{open-same, open-line, open-word, opened-use, opened-amount, opened-count, opened-sales}
 use Rattle.laws.proofs.ReflectSlips.{SlipSound, slip-sound-facts, slip-line-facts}
 use Rattle.rules.proofs.Granted.{inside-hall-bench, inside-hall-customer}
-use Rattle.agree.proofs.SlipLines.{open-held}
+use Rattle.laws.proofs.SlipLines.{open-held}
 
 -- ---- tables that answer alike
 first-cons : (n : ℕ) (test : Bool) (rs rs′ : List Rule) → (test ≡ false → first rs ≡ first rs′) → first ((n ⇐ test) ∷ rs) ≡ first ((n ⇐ test) ∷ rs′)

@@ -17,7 +17,7 @@ use Rattle.laws.proofs.ReflectSlips.{SlipSound, slip-sound-facts, SlipLine, sli
 use Rattle.keeps.proofs.Keeps.{Kept, kept}
 use Rattle.keeps.proofs.Nothing.{Tidies, Still, still, made-as-it-stands}
 use Rattle.keeps.proofs.Tenants.{Tenants, tenants}
-use Rattle.agree.proofs.SlipLines.{tokens-length}
+use Rattle.laws.proofs.SlipLines.{tokens-length}
 use Rattle.agree.proofs.SameVerdict.{opened-book, word-amount, word-count, word-sales, dealt-small, count-small}
 use Rattle.agree.proofs.SameStep.{slip-sold, slip-regular}
 use Rattle.agree.proofs.SameRun.{slip-keeps}

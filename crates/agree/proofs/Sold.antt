@@ -15,8 +15,8 @@ use Rattle.laws.proofs.Occurrences.{occ-split, different-once}
 use Rattle.laws.proofs.Zeros.{zeros, zeros-zero}
 use Rattle.laws.proofs.Made.{filled-long}
 use Rattle.laws.proofs.ReflectSlips.{SlipLine}
-use Rattle.agree.proofs.Runs.{stands-at, part-run, from, run-fact, run-fits, run-take}
-use Rattle.agree.proofs.SlipLines.{opened-front, sum-front, good-front}
+use Rattle.laws.proofs.Runs.{stands-at, part-run, from, run-fact, run-fits, run-take}
+use Rattle.laws.proofs.SlipLines.{opened-front, sum-front, good-front}
 
 -- the line after a sale of `gone`
 abbrev pub newLine : List ℕ → List ℕ → List ℕ

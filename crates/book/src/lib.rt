@@ -1,8 +1,8 @@
 // The book's records: each is read as a part of the book, and written as one by a single writer. And the empty book.
 ghost use mathlib.Core.Path.{_≡_};
 ghost use mathlib.Core.List.{_∷_, _++_};
-ghost use Prim.Native.Nat.{_+_, _*_, _-_, _≤_};
-ghost use lib.ListN.{length, drop, replicate};
+ghost use Prim.Native.Nat.{_+_, _*_, _-_, _≤_, _<_};
+ghost use lib.ListN.{length, drop, getD, replicate};
 ghost use Rattle.rules.specs.Hall.{mainHall, mostHeld, records};
 ghost use Rattle.rules.specs.Records.{words, inUse, amount, count, sales, cells, held, filled, made, recordAt, put};
 ghost use Rattle.rules.specs.Bytes.{makeEmpty};
@@ -62,6 +62,23 @@ pub fn tokens_of(rec: &[u32]) -> &[u32]
     let n = words::smaller(count(rec) as usize, rec.len() - 4);
     let e = 4 + n;
     &rec[4..e]
+}
+
+// ---- record k of a book, read
+
+pub fn word_of(book: &[u32], k: usize, w: usize) -> u32
+    requires { ⌜ (words * k + words ≤ length (now book)) × (w < words) ⌝ }
+    ensures { λ r. ⌜ r ≡ getD (recordAt k (now (book .entry))) w 0 ⌝ }
+{
+    let rec = record_at(book, k);
+    rec[w]
+}
+
+pub fn tokens_at(book: &[u32], k: usize) -> &[u32]
+    requires { ⌜ words * k + words ≤ length (now book) ⌝ }
+    ensures { λ r. ⌜ now r ≡ held (recordAt k (now (book .entry))) ⌝ }
+{
+    tokens_of(record_at(book, k))
 }
 
 // ---- a record, written

@@ -69,6 +69,9 @@ pub block-long : (n k : ℕ) (b : List ℕ) → n * k + n ≤ length b → lengt
 unfolding blockAt
 block-long n k b l = simp (length-take, length-drop) (omega arith)
 
+pub block-size : (n k : ℕ) (b r : List ℕ) → n * k + n ≤ length b → r ≡ blockAt n k b → length r ≡ n
+block-size n k b r l e = ap length e ∙ block-long n k b l
+
 pub block-drop : (n j : ℕ) (b : List ℕ) → blockAt n j (drop n b) ≡ blockAt n (suc j) b
 unfolding blockAt
 block-drop n j b =

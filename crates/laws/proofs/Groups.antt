@@ -3,7 +3,7 @@ use mathlib.Core.Path.{_≡_, refl, sym, ap, _∙_}
 use mathlib.Core.Logic.{⊎-elim}
 use Prim.Native.Nat.{_≤_, _<_}
 use native.Mathlib.Omega.{arith}
-use Rattle.rules.specs.Lists.{ℕ, zero, suc, _+_, Bool, true, range, every, occ}
+use Rattle.rules.specs.Lists.{ℕ, zero, suc, _+_, Bool, true, _&&_, List, _++_, range, every, occ, joined}
 use Rattle.rules.proofs.Tests.{same, and-left, and-right, true-and}
 use Rattle.laws.proofs.Occurrences.{occ-equal, occ-unequal}
 
@@ -23,6 +23,21 @@ module _ (test : ℕ → Bool) where
   range-every a zero h = refl
   range-every a (suc n) h =
       true-and (test a) _ (h a (omega arith) (omega arith)) (range-every (suc a) n (λ k l u. h k (omega arith) (omega arith)))
+
+-- ---- what agrees on the numbers of a range
+pub every-same : (f g : ℕ → Bool) (a n : ℕ) → ((k : ℕ) → a ≤ k → k < a + n → f k ≡ g k) → every f (range a n) ≡ every g (range a n)
+unfolding every range
+every-same f g a zero e = refl
+every-same f g a (suc n) e =
+    ap (λ (b : Bool). b && every f (range (suc a) n)) (e a (omega arith) (omega arith))
+    ∙ ap (λ (b : Bool). g a && b) (every-same f g (suc a) n (λ k l u. e k (omega arith) (omega arith)))
+
+pub joined-same : (f g : ℕ → List ℕ) (a n : ℕ) → ((k : ℕ) → a ≤ k → k < a + n → f k ≡ g k) → joined f (range a n) ≡ joined g (range a n)
+unfolding joined range
+joined-same f g a zero e = refl
+joined-same f g a (suc n) e =
+    ap (λ (xs : List ℕ). xs ++ joined f (range (suc a) n)) (e a (omega arith) (omega arith))
+    ∙ ap (λ (xs : List ℕ). g a ++ xs) (joined-same f g (suc a) n (λ k l u. e k (omega arith) (omega arith)))
 
 -- ---- how often a number stands in a range
 module _ (k : ℕ) where

@@ -1,5 +1,6 @@
 pub mod Occurrences
 pub mod Groups
+pub mod Loops
 pub mod Sums
 pub mod Tokens
 pub mod Zeros
@@ -14,3 +15,6 @@ pub mod Opened
 pub mod ReflectSlips
 pub mod Empty
 pub mod Parts
+pub mod Pairs
+pub mod Runs
+pub mod SlipLines

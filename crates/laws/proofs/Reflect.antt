@@ -126,7 +126,7 @@ abbrev pub Book : Hall → List ℕ → List ℕ → Type 0
 Book h ts b = (length b ≡ words * records h) × Sound h ts (λ k. recordAt k b)
 
 module _ (h : Hall) (ts b : List ℕ) where
-  by-rows : length b ≡ words * records h → soundBy h ts (rows (records h) b) ≡ soundBy h ts (λ k. recordAt k b)
+  pub by-rows : length b ≡ words * records h → soundBy h ts (rows (records h) b) ≡ soundBy h ts (λ k. recordAt k b)
   by-rows long = ap (soundBy h ts) (fun-ext (rows-at (records h) b long))
 
   pub sound-facts : sound h ts b ≡ true → Book h ts b

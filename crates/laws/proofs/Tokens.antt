@@ -5,17 +5,19 @@ use Prim.Native.Nat.{_≤_, _<_}
 use native.Mathlib.Omega.{arith}
 use lib.Seq.{take-add}
 use borrow.Author.Tests.{eqb-true, ltb-true, lt-ltb, le-ltb}
-use Rattle.rules.specs.Lists.{ℕ, zero, suc, _+_, Bool, true, false, cond, ltb, eqb, List, [], _∷_, _++_, length, take, drop, every, occ, isIn, allDifferent, without}
-use Rattle.rules.proofs.Tests.{same, and-left, and-right, true-and}
+use Rattle.rules.specs.Lists.{ℕ, zero, suc, _+_, Bool, true, false, cond, _&&_, ltb, eqb, List, [], _∷_, _++_, length, take, drop, every, occ, isIn, allDifferent, without}
+use Rattle.rules.proofs.Tests.{same, and-left, and-right, and-then, true-and}
 use Rattle.laws.proofs.Occurrences.{occ-equal, occ-unequal, occ-append}
 
 -- ---- a test of each
 module _ (test : ℕ → Bool) where
-  pub every-append : (xs ys : List ℕ) → every test xs ≡ true → every test ys ≡ true → every test (xs ++ ys) ≡ true
+  pub every-both : (xs ys : List ℕ) → every test (xs ++ ys) ≡ every test xs && every test ys
   unfolding every
-  every-append [] ys p q = q
-  every-append (x ∷ xs) ys p q =
-      true-and _ _ (and-left (test x) _ p) (every-append xs ys (and-right (test x) _ p) q)
+  every-both [] ys = refl
+  every-both (x ∷ xs) ys = ap (λ (b : Bool). test x && b) (every-both xs ys) ∙ and-then (test x) (every test xs) (every test ys)
+
+  pub every-append : (xs ys : List ℕ) → every test xs ≡ true → every test ys ≡ true → every test (xs ++ ys) ≡ true
+  every-append xs ys p q = every-both xs ys ∙ true-and _ _ p q
 
   pub every-take : (n : ℕ) (xs : List ℕ) → every test xs ≡ true → every test (take n xs) ≡ true
   unfolding every
@@ -37,6 +39,22 @@ module _ (test : ℕ → Bool) where
       go : (t : Bool) → test x ≡ true → every test (without ys xs) ≡ true → every test (cond t (without ys xs) (x ∷ without ys xs)) ≡ true
       go true p q = q
       go false p q = true-and _ _ p q
+
+  -- in the words of how often a number stands in the list
+  pub every-in : (xs : List ℕ) → every test xs ≡ true → (x : ℕ) → 1 ≤ occ x xs → test x ≡ true
+  unfolding every occ
+  every-in [] e x l = absurd (omega arith)
+  every-in (y ∷ ys) e x l =
+      ⊎-elim
+      (λ (q : x ≡ y). ap test q ∙ and-left (test y) _ e)
+      (λ (q : x ≡ y → ⊥). every-in ys (and-right (test y) _ e) x (omega (arith, occ-unequal x y ys q)))
+      (same x y)
+
+  pub in-every : (xs : List ℕ) → ((x : ℕ) → 1 ≤ occ x xs → test x ≡ true) → every test xs ≡ true
+  unfolding every occ
+  in-every [] h = refl
+  in-every (y ∷ ys) h =
+      true-and _ _ (h y (omega (arith, occ-equal y y ys refl))) (in-every ys (λ x l. h x (omega arith)))
 
 -- ---- each of xs stands in ys
 pub every-none : (t : ℕ) (xs ys : List ℕ) → every (λ x. isIn x ys) xs ≡ true → occ t ys ≡ 0 → occ t xs ≡ 0

@@ -4,27 +4,20 @@ use Prim.Native.Nat.{_≤_}
 use native.Mathlib.Omega.{arith}
 use lib.ListN.{length-append, length-take, length-drop}
 use lib.Seq.{take-append-seam, length-take-le}
-use Rattle.rules.specs.Lists.{ℕ, _+_, _*_, _-_, min, List, _++_, length, take, drop, without}
+use Rattle.rules.specs.Lists.{ℕ, _+_, _-_, min, List, _++_, length, take, drop, without}
 use Rattle.rules.specs.Hall.{mostHeld}
-use Rattle.rules.specs.Records.{words, held, made, recordAt, put}
-use Rattle.laws.proofs.Blocks.{block-long}
+use Rattle.rules.specs.Records.{held, made, recordAt, put}
 use Rattle.laws.proofs.Books.{held-few}
 use Rattle.laws.proofs.Tokens.{without-short}
 use Rattle.words.specs.Laid.{laid}
 use Rattle.words.proofs.Laying.{laid-all}
 
-pub four-words : (k : ℕ) (b r : List ℕ) → words * k + words ≤ length b → r ≡ recordAt k b → 4 ≤ length r
-four-words k b r l e = rw (e, block-long words k b l) (omega arith)
-
--- what tokens_of has read of record k
-pub read-back : (k : ℕ) (b r t : List ℕ) → r ≡ recordAt k b → t ≡ held r → t ≡ held (recordAt k b)
-read-back k b r t e f = f ∙ ap held e
-
 pub in-both : (f : List ℕ → List ℕ → List ℕ) (x x' y y' : List ℕ) → x ≡ x' → y ≡ y' → f x y ≡ f x' y'
 in-both f x x' y y' e g = ap (λ (z : List ℕ). f z y) e ∙ ap (f x') g
 
-pub few : (k : ℕ) (b r t : List ℕ) → r ≡ recordAt k b → t ≡ held r → length t ≤ mostHeld
-few k b r t e f = rw (read-back k b r t e f) (held-few k b)
+-- what tokens_at has read of record k
+pub few : (k : ℕ) (b t : List ℕ) → t ≡ held (recordAt k b) → length t ≤ mostHeld
+few k b t e = rw e (held-few k b)
 
 -- ---- the first m cells of a scratch record, over which xs were laid
 

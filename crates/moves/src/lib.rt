@@ -14,8 +14,7 @@ pub fn keep_rest(book: &mut [u32], k: usize, n: usize, amount: u32, sales: u32)
     ensures { λ _. ⌜ now (book .exit) ≡ put k (made amount sales (drop n (held (recordAt k (now (book .entry)))))) (now (book .entry)) ⌝ }
 {
     let mut scratch = [0u32; 32];
-    let rec = book::record_at(book, k);
-    let tokens = book::tokens_of(rec);
+    let tokens = book::tokens_at(book, k);
     let left = tokens.len() - words::smaller(n, tokens.len());
     words::lay_rest(&mut scratch, n, tokens);
     book::put_made(book, k, amount, sales, &scratch[..left]);
@@ -27,10 +26,8 @@ pub fn put_before(book: &mut [u32], k: usize, other: usize, n: usize, amount: u3
     ensures { λ _. ⌜ now (book .exit) ≡ put k (made amount sales (take n (held (recordAt other (now (book .entry)))) ++ held (recordAt k (now (book .entry))))) (now (book .entry)) ⌝ }
 {
     let mut scratch = [0u32; 32];
-    let rec = book::record_at(book, other);
-    let sold = book::tokens_of(rec);
-    let line = book::record_at(book, k);
-    let older = book::tokens_of(line);
+    let sold = book::tokens_at(book, other);
+    let older = book::tokens_at(book, k);
     let filled = words::smaller(n, sold.len()) + older.len();
     words::lay_before(&mut scratch, n, sold, older);
     book::put_made(book, k, amount, sales, &scratch[..filled]);
@@ -42,10 +39,8 @@ pub fn strike(book: &mut [u32], k: usize, other: usize, amount: u32, sales: u32)
     ensures { λ _. ⌜ now (book .exit) ≡ put k (made amount sales (without (held (recordAt other (now (book .entry)))) (held (recordAt k (now (book .entry)))))) (now (book .entry)) ⌝ }
 {
     let mut scratch = [0u32; 32];
-    let rec = book::record_at(book, other);
-    let gone = book::tokens_of(rec);
-    let view = book::record_at(book, k);
-    let tokens = book::tokens_of(view);
+    let gone = book::tokens_at(book, other);
+    let tokens = book::tokens_at(book, k);
     let kept = words::lay_without(&mut scratch, gone, tokens);
     book::put_made(book, k, amount, sales, &scratch[..kept]);
 }

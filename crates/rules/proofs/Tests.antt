@@ -1,5 +1,5 @@
 -- Tests and facts: what a test that holds says, what makes a test hold, and the two cases of a comparison.
-use mathlib.Core.Path.{_≡_, refl}
+use mathlib.Core.Path.{_≡_, refl, sym, _∙_}
 use mathlib.Core.Logic.{_⊎_, inl, inr}
 use Prim.Native.Nat.{_≤_, _<_}
 use borrow.Author.Tests.{leb-true, ltb-true, ltb-false, eqb-true, eqb-false, not-false, le-leb, lt-ltb, eq-eqb}
@@ -16,6 +16,24 @@ and-right false b e = cc
 pub true-and : (a b : Bool) → a ≡ true → b ≡ true → a && b ≡ true
 true-and a b p q = rw (p, q)
 
+pub and-then : (a b c : Bool) → a && (b && c) ≡ (a && b) && c
+and-then true b c = refl
+and-then false b c = refl
+
+pub and-yes : (a : Bool) → a && true ≡ a
+and-yes true = refl
+and-yes false = refl
+
+pub and-no : (a : Bool) → a && false ≡ false
+and-no true = refl
+and-no false = refl
+
+-- two tests that say the same
+pub alike : (a b : Bool) → (a ≡ true → b ≡ true) → (b ≡ true → a ≡ true) → a ≡ b
+alike true b f g = sym (f refl)
+alike false true f g = g refl
+alike false false f g = refl
+
 -- of a test that fails
 pub and-false : (a b : Bool) → a && b ≡ false → a ≡ true → b ≡ false
 and-false a b e p = rw p at e
@@ -27,6 +45,23 @@ or-left false b e = refl
 pub or-right : (a b : Bool) → a || b ≡ false → b ≡ false
 or-right true b e = cc
 or-right false b e = e
+
+-- a chain of four tests, made one after the other: one that fails is enough, and where three hold the fourth decides
+pub record Chain (x a b c d : Bool) : Type 0 where
+  pub is : x ≡ a && b && c && d
+
+module _ {x a b c d : Bool} (s : Chain x a b c d) where
+  pub first-fails : a ≡ false → false ≡ x
+  first-fails e = sym (s .is ∙ rw e)
+
+  pub second-fails : b ≡ false → false ≡ x
+  second-fails e = sym (s .is ∙ rw (e, and-no a))
+
+  pub third-fails : c ≡ false → false ≡ x
+  third-fails e = sym (s .is ∙ rw (e, and-no (a && b)))
+
+  pub fourth-decides : a ≡ true → b ≡ true → c ≡ true → d ≡ x
+  fourth-decides p q r = sym (s .is ∙ rw (p, q, r))
 
 -- `search parts` takes a fact out of a test that holds; `search whole` puts a test together from facts
 pub ruleset parts = (and-left, and-right, leb-true, ltb-true, eqb-true, not-false)

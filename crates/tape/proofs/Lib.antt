@@ -1,5 +1,4 @@
 pub mod Used
-pub mod Checks
 pub mod Eight
 pub mod Reader
 pub mod Writer

@@ -1,21 +1,19 @@
 -- Walks along a list from its front: at place i, what is left gives what the whole gives.
 use mathlib.Core.Path.{_≡_, refl, sym, ap, _∙_}
-use mathlib.Core.Logic.{⊎-elim}
 use Prim.Native.Nat.{_≤_, _<_}
 use native.Mathlib.Nat.{add-zero, add-suc, suc-add}
 use native.Mathlib.Numerals.{add-one}
 use native.Mathlib.Omega.{arith}
 use lib.ListN.{drop-of-length-le}
-use lib.Seq.{drop-cons}
-use lib.Dec.{leb·suc-suc}
+use lib.Seq.{take-add}
 use borrow.Author.Tests.{eq-eqb, ne-eqb, lt-ltb, ltb-true, ltb-false}
-use Rattle.rules.specs.Lists.{ℕ, suc, _+_, true, false, ltb, List, [], _∷_, length, drop, getD, occ, isIn, allDifferent, placeOf}
-use Rattle.rules.proofs.Tests.{same}
+use Rattle.rules.specs.Lists.{ℕ, suc, _+_, Bool, true, false, _&&_, ltb, eqb, List, [], _∷_, _++_, length, take, drop, getD, every, allZero, occ, isIn, allDifferent, sameList, placeOf}
+use Rattle.rules.proofs.Tests.{and-yes, and-no, and-right}
+use Rattle.laws.proofs.Occurrences.{occ-equal, occ-unequal, occ-append}
+use Rattle.laws.proofs.Tokens.{every-both}
+use Rattle.laws.proofs.Loops.{list-next}
 
 module _ (s : List ℕ) (i : ℕ) where
-  next : i < length s → drop i s ≡ getD s i 0 ∷ drop (i + 1) s
-  next l = rw (add-one, drop-cons s i 0)
-
   -- ---- the place of t
   module _ (t : ℕ) where
     pub place-end : length s ≤ i → i + placeOf t (drop i s) ≡ i
@@ -24,11 +22,11 @@ module _ (s : List ℕ) (i : ℕ) where
 
     pub place-hit : i < length s → getD s i 0 ≡ t → i + placeOf t (drop i s) ≡ i
     unfolding placeOf
-    place-hit l e = rw (next l, eq-eqb t (getD s i 0) (sym e), add-zero)
+    place-hit l e = rw (list-next s i l, eq-eqb t (getD s i 0) (sym e), add-zero)
 
     pub place-miss : i < length s → (getD s i 0 ≡ t → ⊥) → i + placeOf t (drop i s) ≡ (i + 1) + placeOf t (drop (i + 1) s)
     unfolding placeOf
-    place-miss l e = rw (next l, ne-eqb t (getD s i 0) (λ q. e (sym q)), add-suc, add-one, suc-add)
+    place-miss l e = rw (list-next s i l, ne-eqb t (getD s i 0) (λ q. e (sym q)), add-suc, add-one, suc-add)
 
   -- ---- no token twice
   pub different-end : length s ≤ i → allDifferent (drop i s) ≡ true
@@ -38,26 +36,68 @@ module _ (s : List ℕ) (i : ℕ) where
   pub different-hit : i < length s → isIn (getD s i 0) (drop (i + 1) s) ≡ true → allDifferent (drop i s) ≡ false
   unfolding allDifferent
   different-hit l e =
-      rw (next l)
+      rw (list-next s i l)
       (rw (ne-eqb (occ (getD s i 0) (drop (i + 1) s)) 0 (λ q. omega (arith, ltb-true 0 (occ (getD s i 0) (drop (i + 1) s)) e))))
 
   pub different-miss : i < length s → isIn (getD s i 0) (drop (i + 1) s) ≡ false → allDifferent (drop i s) ≡ allDifferent (drop (i + 1) s)
   unfolding allDifferent
-  different-miss l e = rw (next l) (rw (eq-eqb (occ (getD s i 0) (drop (i + 1) s)) 0 (omega (arith, ltb-false 0 (occ (getD s i 0) (drop (i + 1) s)) e))))
+  different-miss l e = rw (list-next s i l) (rw (eq-eqb (occ (getD s i 0) (drop (i + 1) s)) 0 (omega (arith, ltb-false 0 (occ (getD s i 0) (drop (i + 1) s)) e))))
 
--- a token stands in a list when its place is before the list's end
-pub stands-before : (t : ℕ) (xs : List ℕ) → ltb (placeOf t xs) (length xs) ≡ isIn t xs
-unfolding placeOf occ
-stands-before t [] = refl
-stands-before t (x ∷ xs) =
-    ⊎-elim
-    (λ (e : t ≡ x).
-    rw (eq-eqb t x e)
-    (lt-ltb 0 (suc (length xs)) (omega arith) ∙ sym (lt-ltb 0 (1 + occ t xs) (omega arith))))
-    (λ (e : t ≡ x → ⊥).
-    rw (ne-eqb t x e)
-    (leb·suc-suc (suc (placeOf t xs)) (length xs) ∙ stands-before t xs ∙ ap (ltb 0) (none (occ t xs))))
-    (same t x)
+  -- ---- the same as r
+  module _ (r : List ℕ) where
+    pub same-end : length s ≤ i → length r ≤ i → sameList (drop i s) (drop i r) ≡ true
+    unfolding sameList
+    same-end l m = rw (drop-of-length-le s l, drop-of-length-le r m)
+
+-- ---- two lists, side by side
+module _ (s r : List ℕ) (i : ℕ) (l : i < length s) (m : i < length r) where
+  pub same-no : (getD s i 0 ≡ getD r i 0 → ⊥) → sameList (drop i s) (drop i r) ≡ false
+  unfolding sameList
+  same-no e = rw (list-next s i l, list-next r i m) (rw (ne-eqb (getD s i 0) (getD r i 0) e))
+
+  pub same-yes : getD s i 0 ≡ getD r i 0 → sameList (drop i s) (drop i r) ≡ sameList (drop (i + 1) s) (drop (i + 1) r)
+  unfolding sameList
+  same-yes e = rw (list-next s i l, list-next r i m) (rw (eq-eqb (getD s i 0) (getD r i 0) e))
+
+same-lengths : (s r : List ℕ) → sameList s r ≡ true → length s ≡ length r
+unfolding sameList
+same-lengths [] [] e = refl
+same-lengths [] (y ∷ r) e = cc
+same-lengths (x ∷ s) [] e = cc
+same-lengths (x ∷ s) (y ∷ r) e = ap suc (same-lengths s r (and-right (eqb x y) (sameList s r) e))
+
+pub differ : (s r : List ℕ) → (length s ≡ length r → ⊥) → false ≡ sameList s r
+differ s r ne = go (sameList s r) refl
   where
-    none : (n : ℕ) → n ≡ 0 + n
-    none n = omega arith
+    go : (b : Bool) → sameList s r ≡ b → false ≡ b
+    go true e = absurd (ne (same-lengths s r e))
+    go false e = refl
+
+-- ---- walks that look at all of a list: what the first i give
+module _ (s : List ℕ) (i : ℕ) (l : i < length s) where
+  front : take (i + 1) s ≡ take i s ++ (getD s i 0 ∷ [])
+  front = take-add i 1 s ∙ ap (λ (x : List ℕ). take i s ++ take 1 x) (list-next s i l)
+
+  module _ (t : ℕ) where
+    found : occ t (take (i + 1) s) ≡ occ t (take i s) + occ t (getD s i 0 ∷ [])
+    found = ap (occ t) front ∙ occ-append t (take i s) (getD s i 0 ∷ [])
+
+    pub in-hit : getD s i 0 ≡ t → isIn t (take (i + 1) s) ≡ true
+    in-hit e = lt-ltb 0 (occ t (take (i + 1) s)) (omega (arith, found, occ-equal t (getD s i 0) [] (sym e)))
+
+    pub in-miss : (getD s i 0 ≡ t → ⊥) → isIn t (take (i + 1) s) ≡ isIn t (take i s)
+    unfolding occ
+    in-miss e =
+        let none : occ t (getD s i 0 ∷ []) ≡ 0 = occ-unequal t (getD s i 0) [] (λ q. e (sym q)) in
+        let e : occ t (take (i + 1) s) ≡ occ t (take i s) = omega (arith, found) in
+        ap (ltb 0) e
+
+  clear : allZero (take (i + 1) s) ≡ allZero (take i s) && (eqb (getD s i 0) 0 && true)
+  unfolding every
+  clear = ap allZero front ∙ every-both (λ x. eqb x 0) (take i s) (getD s i 0 ∷ [])
+
+  pub clear-no : (getD s i 0 ≡ 0 → ⊥) → allZero (take (i + 1) s) ≡ false
+  clear-no e = clear ∙ rw (ne-eqb (getD s i 0) 0 e, and-no)
+
+  pub clear-yes : getD s i 0 ≡ 0 → allZero (take (i + 1) s) ≡ allZero (take i s)
+  clear-yes e = clear ∙ rw (eq-eqb (getD s i 0) 0 e, and-yes)

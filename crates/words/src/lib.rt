@@ -3,7 +3,7 @@ ghost use mathlib.Core.Path.{_≡_};
 ghost use Prim.Native.Nat.{min};
 ghost use lib.ListN.{length, take, drop, set};
 ghost use mathlib.Core.List.{_++_};
-ghost use Rattle.rules.specs.Lists.{isIn, allDifferent, without, placeOf};
+ghost use Rattle.rules.specs.Lists.{every, allZero, isIn, allDifferent, sameList, without, placeOf};
 ghost use Rattle.words.specs.Laid.{laid};
 
 // ---- searching
@@ -26,10 +26,19 @@ pub fn place_of(list: &[u32], token: u32) -> usize
     place
 }
 
+// Every token is looked at, also behind a hit: such a loop is compiled to compare several tokens at once, and is the faster one.
 pub fn is_in(list: &[u32], token: u32) -> bool
     ensures { λ r. ⌜ r ≡ isIn token (now (list .entry)) ⌝ }
 {
-    place_of(list, token) < list.len()
+    let mut found = false;
+    let mut i = 0;
+    while i < list.len() {
+        if list[i] == token {
+            found = true;
+        }
+        i += 1;
+    }
+    found
 }
 
 pub fn smaller(a: usize, b: usize) -> usize
@@ -56,6 +65,52 @@ pub fn all_different(list: &[u32]) -> bool
         if is_in(&list[i..], token) {
             return false;
         }
+    }
+    true
+}
+
+// Whether each of some tokens is among the first n of a list.
+pub fn all_among(list: &[u32], n: usize, tokens: &[u32]) -> bool
+    ensures { λ r. ⌜ r ≡ every (λ t. isIn t (take n (now (list .entry)))) (now (tokens .entry)) ⌝ }
+{
+    let mut i = 0;
+    while i < tokens.len() {
+        if !is_among(list, n, tokens[i]) {
+            return false;
+        }
+        i += 1;
+    }
+    true
+}
+
+// Every word is 0.
+pub fn is_blank(part: &[u32]) -> bool
+    ensures { λ r. ⌜ r ≡ allZero (now (part .entry)) ⌝ }
+{
+    let mut clear = true;
+    let mut i = 0;
+    while i < part.len() {
+        if part[i] != 0 {
+            clear = false;
+        }
+        i += 1;
+    }
+    clear
+}
+
+// Whether two lists are the same, in the same order.
+pub fn same_list(a: &[u32], b: &[u32]) -> bool
+    ensures { λ r. ⌜ r ≡ sameList (now (a .entry)) (now (b .entry)) ⌝ }
+{
+    if a.len() != b.len() {
+        return false;
+    }
+    let mut i = 0;
+    while i < a.len() {
+        if a[i] != b[i] {
+            return false;
+        }
+        i += 1;
     }
     true
 }

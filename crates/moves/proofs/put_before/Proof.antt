@@ -1,24 +1,19 @@
+-- The tokens sold and then the older ones, laid over the scratch record and written back.
 use mathlib.Core.Path.{_≡_}
 use Prim.Native.Nat.{_≤_}
 use Rattle.rules.specs.Lists.{ℕ, List, _+_, _++_, length, take}
 use Rattle.rules.specs.Hall.{mostHeld}
 use Rattle.rules.specs.Records.{held, recordAt}
-use Rattle.moves.proofs.Scratch.{four-words, read-back, in-both, first-within, first-size, first-few, moved, front-size, front-few}
+use Rattle.moves.proofs.Scratch.{in-both, first-within, first-size, first-few, moved, front-size, front-few}
 use borrow.Author.Needs.{needs}
 use Rattle.moves.proofs.put_before.Statement.{statement}
 use Rattle.moves.proofs.put_before.Tie as tie
 
-record-at-requires : tie.Need-record-at-requires
-record-at-requires c κs = search needs
+tokens-at-requires : tie.Need-tokens-at-requires
+tokens-at-requires c κs = search needs
 
-tokens-of-requires : tie.Need-tokens-of-requires
-tokens-of-requires c κs = four-words _ _ _ (c .before .before .before .pre .1) (c .record-at .ensures)
-
-record-at-requires-2 : tie.Need-record-at-requires-2
-record-at-requires-2 c κs = search needs
-
-tokens-of-requires-2 : tie.Need-tokens-of-requires-2
-tokens-of-requires-2 c κs = four-words _ _ _ (c .before .before .before .before .before .pre .0) (c .record-at2 .ensures)
+tokens-at-requires-2 : tie.Need-tokens-at-requires-2
+tokens-at-requires-2 c κs = search needs
 
 smaller-requires : tie.Need-smaller-requires
 smaller-requires c κs = search needs
@@ -33,18 +28,18 @@ lay-before-requires : tie.Need-lay-before-requires
 lay-before-requires c κs = search needs
 
 -- the tokens that go into record k are those of the book
-filled : (c : tie.After-lay-before) → let s = c .before .before .before .before .before .before .before .before .before .args in
-    take (s .n) (c .before .before .before .before .before .tokens-of .result .now) ++ c .before .before .before .tokens-of2 .result .now
+filled : (c : tie.After-lay-before) → let s = c .before .before .before .before .before .before .before .args in
+    take (s .n) (c .before .before .before .before .tokens-at .result .now) ++ c .before .before .before .tokens-at2 .result .now
     ≡ take (s .n) (held (recordAt (s .other) (s .book .now))) ++ held (recordAt (s .k) (s .book .now))
 filled c =
-    let s = c .before .before .before .before .before .before .before .before .before .args in
+    let s = c .before .before .before .before .before .before .before .args in
     in-both (λ (x y : List ℕ). take (s .n) x ++ y) _ _ _ _
-    (read-back _ _ _ _ (c .before .before .before .before .before .before .record-at .ensures) (c .before .before .before .before .before .tokens-of .ensures))
-    (read-back _ _ _ _ (c .before .before .before .before .record-at2 .ensures) (c .before .before .before .tokens-of2 .ensures))
+    (c .before .before .before .before .tokens-at .ensures)
+    (c .before .before .before .tokens-at2 .ensures)
 
-few-filled : (c : tie.After-lay-before) → c .before .before .smaller .result + length (c .before .before .before .tokens-of2 .result .now) ≤ mostHeld
+few-filled : (c : tie.After-lay-before) → c .before .before .smaller .result + length (c .before .before .before .tokens-at2 .result .now) ≤ mostHeld
 few-filled c =
-    let s = c .before .before .before .before .before .before .before .before .before in
+    let s = c .before .before .before .before .before .before .before in
     front-few (s .args .n) _ _ _ _ (c .before .before .smaller .ensures) (filled c) (s .pre .2)
 
 array-share-prefix-scratch : tie.Need-array-share-prefix-scratch
@@ -57,7 +52,7 @@ slice-aggregate-put-made c = first-size _ _ (few-filled (c .before .before .befo
 put-made-requires : tie.Need-put-made-requires
 put-made-requires c κs =
     let laid = c .before .before .before in
-    (laid .before .before .before .before .before .before .before .before .before .pre .0, first-few _ _ (few-filled laid) (laid .lay-before .kept .0))
+    (laid .before .before .before .before .before .before .before .pre .0, first-few _ _ (few-filled laid) (laid .lay-before .kept .0))
 
 same-length : tie.Need-same-length
 same-length c = search needs
@@ -65,7 +60,7 @@ same-length c = search needs
 returns : tie.Need-returns
 returns c =
     let laid = c .before .before .before .before .before .before in
-    let s = laid .before .before .before .before .before .before .before .before .before in
+    let s = laid .before .before .before .before .before .before .before in
     moved _ _ _ _ _ _ _ _ _ _ (c .before .before .put-made .ensures) (laid .lay-before .ensures)
     (front-size (s .args .n) _ _ _ (laid .before .before .smaller .ensures)) (rw (filled laid) (s .pre .2)) (filled laid)
 
@@ -73,10 +68,8 @@ pub put-before-spec : {M : Type 1} → statement M
 put-before-spec =
     tie.close
     (tie.spec
-    record-at-requires
-    tokens-of-requires
-    record-at-requires-2
-    tokens-of-requires-2
+    tokens-at-requires
+    tokens-at-requires-2
     smaller-requires
     add-filled
     slice-aggregate-lay-before

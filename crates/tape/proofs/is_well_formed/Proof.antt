@@ -5,7 +5,7 @@ use borrow.Author.Tests.{le-leb, lt-leb, eq-eqb, ne-eqb, not-true, not-false}
 use Rattle.rules.specs.Lists.{_||_, eqb}
 use Rattle.rules.specs.Tape.{usesBench, usesCustomer, wellFormed}
 use Rattle.rules.specs.declared.Entry.{Entry}
-use Rattle.tape.proofs.Checks.{and-no}
+use Rattle.rules.proofs.Tests.{and-no}
 use Rattle.tape.proofs.is_well_formed.Statement.{statement}
 use Rattle.tape.proofs.is_well_formed.Tie as tie
 

@@ -1,0 +1,3 @@
+pub mod Parted
+pub mod Alone
+pub mod Begun

@@ -1,0 +1,89 @@
+-- The test of all slips is the test of those left.
+use mathlib.Core.Path.{sym, _∙_}
+use Prim.Native.Nat.{_+_, _*_, _-_}
+use native.Mathlib.Omega.{arith}
+use borrow.Author.Tests.{not-true, not-false}
+use Rattle.rules.specs.Hall.{carnets, lines}
+use Rattle.groups.specs.Together.{heldIn}
+use Rattle.alone.specs.Alone.{begunIn}
+use Rattle.alone.proofs.Begun.{Alone, alone-all, alone-end, alone-no, alone-yes}
+use borrow.Author.Needs.{needs}
+use Rattle.alone.proofs.are_alone.Statement.{statement}
+use Rattle.alone.proofs.are_alone.Tie as tie
+
+abbrev Inv-loop : tie.InvT-loop
+Inv-loop h list book k pairs i₀ i = Alone list (heldIn book (carnets h)) (begunIn book (lines h)) k pairs i
+
+abbrev μ-loop : tie.MeasureT-loop
+μ-loop h list book k pairs i₀ i = k - i
+
+loop-holds : tie.Need-loop-holds Inv-loop μ-loop
+loop-holds c = alone-all _ _ _ _ _
+
+mul-is-alone : tie.Need-mul-is-alone Inv-loop μ-loop
+mul-is-alone c = search needs
+
+mul-is-alone-2 : tie.Need-mul-is-alone-2 Inv-loop μ-loop
+mul-is-alone-2 c = search needs
+
+shared-slice-read-is-alone : tie.Need-shared-slice-read-is-alone Inv-loop μ-loop
+shared-slice-read-is-alone c = search needs
+
+mul-is-alone-3 : tie.Need-mul-is-alone-3 Inv-loop μ-loop
+mul-is-alone-3 c = search needs
+
+add-is-alone : tie.Need-add-is-alone Inv-loop μ-loop
+add-is-alone c = search needs
+
+mul-is-alone-4 : tie.Need-mul-is-alone-4 Inv-loop μ-loop
+mul-is-alone-4 c = search needs
+
+shared-slice-read-is-alone-2 : tie.Need-shared-slice-read-is-alone-2 Inv-loop μ-loop
+shared-slice-read-is-alone-2 c = search needs
+
+cast-is-alone : tie.Need-cast-is-alone Inv-loop μ-loop
+cast-is-alone c = omega (arith, c .shared-slice-known5 .given (2 * c .before .before .before .loop .i + 1))
+
+is-alone-requires : tie.Need-is-alone-requires Inv-loop μ-loop
+is-alone-requires c κs = search needs
+
+returns : tie.Need-returns Inv-loop μ-loop
+returns c =
+    let l = c .before .before .before .before .before in
+    alone-no _ _ _ _ _ (l .loop .i) (l .loop .inv) (c .before .before .before .before .loop-test .taken) (sym (c .before .is-alone .ensures) ∙ not-true _ (c .if1 .taken))
+
+add-i : tie.Need-add-i Inv-loop μ-loop
+add-i c = search needs
+
+loop-less : tie.Need-loop-less Inv-loop μ-loop
+loop-less c = search needs
+
+loop-again : tie.Need-loop-again Inv-loop μ-loop
+loop-again c =
+    let l = c .before .before .before .before .before in
+    alone-yes _ _ _ _ _ (l .loop .i) (l .loop .inv) (c .before .before .before .before .loop-test .taken) (sym (c .before .is-alone .ensures) ∙ not-false _ (c .if1 .left))
+
+returns-2 : tie.Need-returns-2 Inv-loop μ-loop
+returns-2 c = alone-end _ _ _ _ _ _ (c .before .loop .inv) (c .loop-test .left)
+
+pub are-alone-spec : {M : Type 1} → statement M
+are-alone-spec =
+    tie.close
+    (tie.spec
+    Inv-loop
+    μ-loop
+    loop-holds
+    mul-is-alone
+    mul-is-alone-2
+    shared-slice-read-is-alone
+    mul-is-alone-3
+    add-is-alone
+    mul-is-alone-4
+    shared-slice-read-is-alone-2
+    cast-is-alone
+    is-alone-requires
+    returns
+    add-i
+    loop-less
+    loop-again
+    returns-2)

@@ -1,0 +1,102 @@
+-- The clauses put together: who is in use with whom, carnets with lines, and the whole test.
+use mathlib.Core.Path.{_≡_, refl, sym, ap, _∙_}
+use mathlib.Core.List.{append-assoc}
+use borrow.Author.Tests.{eq-eqb, ne-eqb}
+use Rattle.rules.specs.declared.Hall.{Hall}
+use Rattle.rules.specs.Lists.{ℕ, _+_, _*_, min, Bool, true, false, _&&_, leb, List, [], _∷_, _++_, length, range, every, allDifferent, joined}
+use Rattle.rules.specs.Hall.{Place, Carnet, Till, Line, number, records, carnets, lines, spendable, views}
+use Rattle.rules.specs.Records.{words, inUse, amount, held, recordAt}
+use Rattle.rules.specs.Sound.{goodList, fits, recordGood, partiesGood, onceIn, moneyGood, soundBy, sound}
+use Rattle.rules.proofs.Tests.{parts, alike, Chain}
+use Rattle.laws.proofs.Places.{lines-are}
+use Rattle.laws.proofs.Reflect.{by-rows}
+use Rattle.groups.specs.Together.{apart, paired}
+use Rattle.groups.proofs.Grouped.{different-both}
+use Rattle.sound.specs.Accounts.{accountsGood}
+
+-- ---- the parties, by their groups
+module _ (h : Hall) (b : List ℕ) where
+  abbrev used : Place → ℕ
+  used p = inUse (recordAt (number h p) b)
+
+  abbrev customers : Bool
+  customers = paired b 1 (1 + h .customers) (h .customers)
+
+  abbrev benches : Bool
+  benches = paired b (1 + 2 * h .customers + h .benches) (1 + 2 * h .customers) (h .benches)
+
+  abbrev joins : Bool
+  joins =
+      every
+      (λ m. every (λ c. leb (used (Line m c)) (min (used (Carnet c)) (used (Till m)))) (range 0 (h .customers)))
+      (range 0 (h .benches))
+
+  pub parties-are : Chain (partiesGood h used) true customers benches joins
+  unfolding partiesGood
+  parties-are = record { is = refl }
+
+-- ---- carnets and lines, each group by itself and the one against the other
+abbrev heldBy : (ℕ → List ℕ) → List ℕ → List ℕ
+heldBy at ks = joined (λ k. held (at k)) ks
+
+pub joined-both : (f : ℕ → List ℕ) (ks js : List ℕ) → joined f (ks ++ js) ≡ joined f ks ++ joined f js
+unfolding joined
+joined-both f [] js = refl
+joined-both f (k ∷ ks) js = ap (λ (l : List ℕ). f k ++ l) (joined-both f ks js) ∙ sym (append-assoc (f k) (joined f ks) (joined f js))
+
+once-both : (at : ℕ → List ℕ) (ks js : List ℕ) → onceIn (ks ++ js) at ≡ (onceIn ks at && apart (heldBy at ks) (heldBy at js)) && onceIn js at
+unfolding onceIn
+once-both at ks js = ap allDifferent (joined-both (λ k. held (at k)) ks js) ∙ different-both (heldBy at ks) (heldBy at js)
+
+module _ (h : Hall) (at : ℕ → List ℕ) where
+  abbrev first : ℕ
+  first = 1 + 2 * h .customers + 2 * h .benches
+
+  abbrev all : ℕ
+  all = h .customers * h .benches
+
+  pub spendable-is : Chain (onceIn (spendable h) at) true (onceIn (range 1 (h .customers)) at) (apart (heldBy at (range 1 (h .customers))) (heldBy at (range first all))) (onceIn (range first all) at)
+  spendable-is = record { is = rw (lines-are h) (once-both at (carnets h) (lines h)) }
+
+-- ---- the whole test, the clauses in the order in which they are made
+shuffle : (g e p s v m : Bool) → ((((g && e) && p) && s) && v) && m ≡ ((((p && v) && m) && g) && e) && s
+shuffle g e p s v m =
+    alike _ _
+    (λ t.
+    let g′ : g ≡ true = search parts in
+    let e′ : e ≡ true = search parts in
+    let p′ : p ≡ true = search parts in
+    let s′ : s ≡ true = search parts in
+    let v′ : v ≡ true = search parts in
+    let m′ : m ≡ true = search parts in
+    rw (g′, e′, p′, s′, v′, m′))
+    (λ t.
+    let g′ : g ≡ true = search parts in
+    let e′ : e ≡ true = search parts in
+    let p′ : p ≡ true = search parts in
+    let s′ : s ≡ true = search parts in
+    let v′ : v ≡ true = search parts in
+    let m′ : m ≡ true = search parts in
+    rw (g′, e′, p′, s′, v′, m′))
+
+module _ (h : Hall) (ts b : List ℕ) where
+  pub not-fits : (length b ≡ words * records h → ⊥) → false ≡ sound h ts b
+  unfolding sound fits
+  not-fits ne = rw (ne-eqb (length b) (words * records h) ne)
+
+  module _ (long : length b ≡ words * records h) where
+    abbrev at : ℕ → List ℕ
+    at k = recordAt k b
+
+    abbrev each : Bool
+    each = every (λ k. recordGood h ts (amount (recordAt 0 b)) k (recordAt k b)) (range 0 (records h))
+
+    pub clauses : Chain (sound h ts b) (accountsGood h at) (goodList ts) each (onceIn (spendable h) at)
+    unfolding sound fits soundBy
+    clauses =
+        record {
+          is =
+              rw (eq-eqb (length b) (words * records h) long)
+              (by-rows h ts b long
+              ∙ shuffle (goodList ts) each (partiesGood h (λ p. inUse (at (number h p)))) (onceIn (spendable h) at) (onceIn (views h) at) (moneyGood h at));
+        }

@@ -1,0 +1,139 @@
+// Is this book sound? The token list, the clauses of the definition one by one, and the whole test of a plain book.
+ghost use mathlib.Core.Path.{_≡_};
+ghost use Prim.Native.Nat.{_+_, _*_, _≤_};
+ghost use lib.ListN.{length};
+ghost use Rattle.rules.specs.Lists.{leb, min, range, every};
+ghost use Rattle.rules.specs.Hall.{mainHall, Carnet, Till, Line, number, records, spendable};
+ghost use Rattle.rules.specs.Records.{words, inUse, recordAt};
+ghost use Rattle.rules.specs.Sound.{goodList, recordGood, partiesGood, onceIn, moneyGood, sound};
+ghost use Rattle.sound.specs.Accounts.{accountsGood};
+use rules::Hall;
+
+pub fn is_good_list(list: &[u32]) -> bool
+    ensures { λ r. ⌜ r ≡ goodList (now (list .entry)) ⌝ }
+{
+    if 4096 < list.len() {
+        return false;
+    }
+    words::all_different(list)
+}
+
+// Each of the first n records by itself, with d tokens dealt.
+pub fn are_good(h: Hall, list: &[u32], book: &[u32], d: usize, n: usize) -> bool
+    requires { ⌜ (h .customers ≤ 64) × (h .benches ≤ 64) × (words * n ≤ length (now book)) ⌝ }
+    ensures { λ r. ⌜ r ≡ every (λ k. recordGood h (now (list .entry)) d k (recordAt k (now (book .entry)))) (range 0 n) ⌝ }
+{
+    let mut k = 0;
+    while k < n {
+        if !checks::is_good(h, list, d, k, book::record_at(book, k)) {
+            return false;
+        }
+        k += 1;
+    }
+    true
+}
+
+// A line is in use only if its customer and its bench are.
+fn are_lines_joined(h: Hall, book: &[u32]) -> bool
+    requires { ⌜ (h .customers ≤ 64) × (h .benches ≤ 64) × (length (now book) ≡ words * records h) ⌝ }
+    ensures { λ r. ⌜ r ≡ every (λ m. every (λ c. leb (inUse (recordAt (number h (Line m c)) (now (book .entry)))) (min (inUse (recordAt (number h (Carnet c)) (now (book .entry)))) (inUse (recordAt (number h (Till m)) (now (book .entry)))))) (range 0 (h .customers))) (range 0 (h .benches)) ⌝ }
+{
+    let tills = 1 + 2 * h.customers + h.benches;
+    let lines = 1 + 2 * h.customers + 2 * h.benches;
+    let mut m = 0;
+    while m < h.benches {
+        let used = book::word_of(book, tills + m, 0);
+        if !groups::are_backed(book, lines + h.customers * m, 1, used, h.customers) {
+            return false;
+        }
+        m += 1;
+    }
+    true
+}
+
+// A party is in use on both sides or on neither, and a line needs its two parties.
+fn are_parties_good(h: Hall, book: &[u32]) -> bool
+    requires { ⌜ (h .customers ≤ 64) × (h .benches ≤ 64) × (length (now book) ≡ words * records h) ⌝ }
+    ensures { λ r. ⌜ r ≡ partiesGood h (λ p. inUse (recordAt (number h p) (now (book .entry)))) ⌝ }
+{
+    let views = 1 + h.customers;
+    if !groups::are_paired(book, 1, views, h.customers) {
+        return false;
+    }
+    let benches = 1 + 2 * h.customers;
+    let tills = 1 + 2 * h.customers + h.benches;
+    if !groups::are_paired(book, tills, benches, h.benches) {
+        return false;
+    }
+    are_lines_joined(h, book)
+}
+
+// What can still be spent or cleared, in carnets and in lines, is all different.
+fn is_spendable_once(h: Hall, book: &[u32]) -> bool
+    requires { ⌜ (h .customers ≤ 64) × (h .benches ≤ 64) × (length (now book) ≡ words * records h) ⌝ }
+    ensures { λ r. ⌜ r ≡ onceIn (spendable h) (λ k. recordAt k (now (book .entry))) ⌝ }
+{
+    let lines = 1 + 2 * h.customers + 2 * h.benches;
+    let n = h.customers * h.benches;
+    if !groups::is_once(book, 1, h.customers) {
+        return false;
+    }
+    if !groups::are_apart(book, 1, h.customers, lines, n) {
+        return false;
+    }
+    groups::is_once(book, lines, n)
+}
+
+// Balances and budgets, and a token's worth for each that customers carry, came from the customers who joined.
+fn is_money_good(h: Hall, book: &[u32]) -> bool
+    requires { ⌜ (h .customers ≤ 64) × (h .benches ≤ 64) × (length (now book) ≡ words * records h) ⌝ }
+    ensures { λ r. ⌜ r ≡ moneyGood h (λ k. recordAt k (now (book .entry))) ⌝ }
+{
+    let views = 1 + h.customers;
+    let owned = groups::sum_of(book, 1, views, h.customers + h.benches);
+    let carried = groups::sum_of(book, 2, views, h.customers);
+    let joined = groups::sum_of(book, 0, views, h.customers);
+    owned + carried <= 1000000 * joined
+}
+
+// What both books share word for word.
+pub fn are_accounts_good(h: Hall, book: &[u32]) -> bool
+    requires { ⌜ (h .customers ≤ 64) × (h .benches ≤ 64) × (length (now book) ≡ words * records h) ⌝ }
+    ensures { λ r. ⌜ r ≡ accountsGood h (λ k. recordAt k (now (book .entry))) ⌝ }
+{
+    if !are_parties_good(h, book) {
+        return false;
+    }
+    if !groups::is_once(book, 1 + h.customers, h.customers + h.benches) {
+        return false;
+    }
+    is_money_good(h, book)
+}
+
+// The cheap clauses come first.
+pub fn is_sound_of(h: Hall, list: &[u32], book: &[u32]) -> bool
+    requires { ⌜ (h .customers ≤ 64) × (h .benches ≤ 64) ⌝ }
+    ensures { λ r. ⌜ r ≡ sound h (now (list .entry)) (now (book .entry)) ⌝ }
+{
+    if book.len() != book::book_words(h) {
+        return false;
+    }
+    if !are_accounts_good(h, book) {
+        return false;
+    }
+    if !is_good_list(list) {
+        return false;
+    }
+    let dealt = book::word_of(book, 0, 1) as usize;
+    let n = 1 + 2 * h.customers + 2 * h.benches + h.customers * h.benches;
+    if !are_good(h, list, book, dealt, n) {
+        return false;
+    }
+    is_spendable_once(h, book)
+}
+
+pub fn is_sound(list: &[u32], book: &[u32]) -> bool
+    ensures { λ r. ⌜ r ≡ sound mainHall (now (list .entry)) (now (book .entry)) ⌝ }
+{
+    is_sound_of(book::MAIN, list, book)
+}
