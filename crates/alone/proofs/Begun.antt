@@ -4,7 +4,7 @@ use Prim.Native.Nat.{_≤_, _<_}
 use native.Mathlib.Nat.{zero-add}
 use native.Mathlib.Omega.{arith}
 use borrow.Author.Tests.{eq-eqb, ne-eqb}
-use Rattle.rules.specs.Lists.{ℕ, suc, _+_, _*_, _-_, min, Bool, true, false, _&&_, List, _∷_, length, take, drop, getD, occ}
+use Rattle.rules.specs.Lists.{ℕ, suc, _+_, _*_, _-_, min, Bool, true, false, List, _∷_, length, take, drop, getD, occ}
 use Rattle.rules.specs.declared.Hall.{Hall}
 use Rattle.rules.specs.Hall.{mostSales, carnets, lines}
 use Rattle.rules.specs.Records.{words, sales, cells, recordAt}
@@ -12,7 +12,7 @@ use Rattle.rules.specs.Slips.{openSlip}
 use Rattle.rules.proofs.Tests.{and-no}
 use Rattle.laws.proofs.Blocks.{block-size}
 use Rattle.laws.proofs.Parts.{part-rest}
-use Rattle.laws.proofs.Pairs.{pairs-all, pairs-next, pairs-end}
+use Rattle.laws.proofs.Pairs.{pairs-all, pairs-next, pairs-end, Each}
 use Rattle.laws.proofs.Occurrences.{occ-equal, occ-unequal}
 use Rattle.words.proofs.Laying.{drop-least}
 use Rattle.groups.specs.Together.{heldIn, apart}
@@ -90,38 +90,7 @@ module _ (carried begun : List ℕ) (t : ℕ) (run : List ℕ) where
   unfolding alone
   alone-last e q = simp (e, eq-eqb (occ t begun) 1 q)
 
--- ---- each of k slips is alone: that of all is that of those behind the first i
-module _ (ts carried begun : List ℕ) (k : ℕ) (ps : List ℕ) where
-  abbrev all : ℕ → List ℕ → Bool
-  all n qs = allAlone ts carried begun n qs
-
-  abbrev one : ℕ → ℕ → Bool
-  one t n = alone carried begun t (openSlip ts t n)
-
-  abbrev and : ℕ → ℕ → Bool → Bool
-  and t n rest = one t n && rest
-
-  each : (m : ℕ) (qs : List ℕ) → all (suc m) qs ≡ and (getD qs 0 0) (getD qs 1 0) (all m (drop 2 qs))
-  unfolding allAlone
-  each m qs = refl
-
-  abbrev pub Alone : ℕ → Type 0
-  Alone i = (i ≤ k) × (all (k - i) (drop (2 * i) ps) ≡ all k ps)
-
-  pub alone-all : Alone 0
-  alone-all = (omega arith, pairs-all all and each k ps)
-
-  module _ (i : ℕ) (inv : Alone i) where
-    pub alone-end : k ≤ i → true ≡ all k ps
-    unfolding allAlone
-    alone-end l = sym (pairs-end all and each k ps i l) ∙ inv .1
-
-    module _ (l : i < k) where
-      this : all k ps ≡ one (getD ps (2 * i) 0) (getD ps (2 * i + 1) 0) && all (k - (i + 1)) (drop (2 * (i + 1)) ps)
-      this = sym (inv .1) ∙ pairs-next all and each k ps i l
-
-      pub alone-no : one (getD ps (2 * i) 0) (getD ps (2 * i + 1) 0) ≡ false → false ≡ all k ps
-      alone-no e = sym (this ∙ rw e)
-
-      pub alone-yes : one (getD ps (2 * i) 0) (getD ps (2 * i + 1) 0) ≡ true → Alone (i + 1)
-      alone-yes e = (omega arith, sym (this ∙ rw e))
+-- ---- each of k slips is alone
+pub alone-each : (ts carried begun : List ℕ) → Each (allAlone ts carried begun) (λ t n. alone carried begun t (openSlip ts t n))
+unfolding allAlone
+alone-each ts carried begun = record { none = λ ps. refl; more = λ k ps. refl }

@@ -1,9 +1,9 @@
 -- Pairs of words, one pair for each slip, looked at one after the other.
-use mathlib.Core.Path.{_≡_, ap, _∙_}
+use mathlib.Core.Path.{_≡_, sym, ap, _∙_}
 use Prim.Native.Nat.{_≤_, _<_}
 use native.Mathlib.Omega.{arith}
 use lib.Seq.{drop-drop, getD-drop}
-use Rattle.rules.specs.Lists.{ℕ, suc, _+_, _*_, _-_, List, drop, getD}
+use Rattle.rules.specs.Lists.{ℕ, suc, _+_, _*_, _-_, Bool, true, false, _&&_, List, drop, getD}
 
 -- what is left of k slips behind the first i is the slip in pair i, and what is left behind it
 module _ {A : Type 0} (g : ℕ → List ℕ → A) (f : ℕ → ℕ → A → A)
@@ -24,3 +24,33 @@ module _ {A : Type 0} (g : ℕ → List ℕ → A) (f : ℕ → ℕ → A → A)
 
   pub pairs-end : (i : ℕ) → k ≤ i → g (k - i) (drop (2 * i) ps) ≡ g 0 (drop (2 * i) ps)
   pairs-end i l = let e : k - i ≡ 0 = omega arith in ap (λ (n : ℕ). g n (drop (2 * i) ps)) e
+
+-- ---- a test of each slip, one after the other
+pub record Each (g : ℕ → List ℕ → Bool) (one : ℕ → ℕ → Bool) : Type 0 where
+  pub none : (ps : List ℕ) → g 0 ps ≡ true
+  pub more : (k : ℕ) (ps : List ℕ) → g (suc k) ps ≡ one (getD ps 0 0) (getD ps 1 0) && g k (drop 2 ps)
+
+-- the test of those behind the first i is the test of all
+abbrev pub Behind : (ℕ → List ℕ → Bool) → ℕ → List ℕ → ℕ → Type 0
+Behind g k ps i = (i ≤ k) × (g (k - i) (drop (2 * i) ps) ≡ g k ps)
+
+module _ {g : ℕ → List ℕ → Bool} {one : ℕ → ℕ → Bool} (e : Each g one) (k : ℕ) (ps : List ℕ) where
+  abbrev also : ℕ → ℕ → Bool → Bool
+  also t n rest = one t n && rest
+
+  pub behind-all : Behind g k ps 0
+  behind-all = (omega arith, pairs-all g also (e .more) k ps)
+
+  module _ (i : ℕ) (inv : Behind g k ps i) where
+    pub behind-end : k ≤ i → true ≡ g k ps
+    behind-end l = sym (pairs-end g also (e .more) k ps i l ∙ e .none (drop (2 * i) ps)) ∙ inv .1
+
+    module _ (l : i < k) where
+      this : g k ps ≡ one (getD ps (2 * i) 0) (getD ps (2 * i + 1) 0) && g (k - (i + 1)) (drop (2 * (i + 1)) ps)
+      this = sym (inv .1) ∙ pairs-next g also (e .more) k ps i l
+
+      pub behind-no : one (getD ps (2 * i) 0) (getD ps (2 * i + 1) 0) ≡ false → false ≡ g k ps
+      behind-no q = sym (this ∙ rw q)
+
+      pub behind-yes : one (getD ps (2 * i) 0) (getD ps (2 * i + 1) 0) ≡ true → Behind g k ps (i + 1)
+      behind-yes q = (omega arith, sym (this ∙ rw q))

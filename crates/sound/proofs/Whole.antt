@@ -7,7 +7,7 @@ use Rattle.rules.specs.Lists.{ℕ, _+_, _*_, min, Bool, true, false, _&&_, leb,
 use Rattle.rules.specs.Hall.{Place, Carnet, Till, Line, number, records, carnets, lines, spendable, views}
 use Rattle.rules.specs.Records.{words, inUse, amount, held, recordAt}
 use Rattle.rules.specs.Sound.{goodList, fits, recordGood, partiesGood, onceIn, moneyGood, soundBy, sound}
-use Rattle.rules.proofs.Tests.{parts, alike, Chain}
+use Rattle.rules.proofs.Tests.{and-yes, and-no, Chain}
 use Rattle.laws.proofs.Places.{lines-are}
 use Rattle.laws.proofs.Reflect.{by-rows}
 use Rattle.groups.specs.Together.{apart, paired}
@@ -60,24 +60,11 @@ module _ (h : Hall) (at : ℕ → List ℕ) where
 
 -- ---- the whole test, the clauses in the order in which they are made
 shuffle : (g e p s v m : Bool) → ((((g && e) && p) && s) && v) && m ≡ ((((p && v) && m) && g) && e) && s
-shuffle g e p s v m =
-    alike _ _
-    (λ t.
-    let g′ : g ≡ true = search parts in
-    let e′ : e ≡ true = search parts in
-    let p′ : p ≡ true = search parts in
-    let s′ : s ≡ true = search parts in
-    let v′ : v ≡ true = search parts in
-    let m′ : m ≡ true = search parts in
-    rw (g′, e′, p′, s′, v′, m′))
-    (λ t.
-    let g′ : g ≡ true = search parts in
-    let e′ : e ≡ true = search parts in
-    let p′ : p ≡ true = search parts in
-    let s′ : s ≡ true = search parts in
-    let v′ : v ≡ true = search parts in
-    let m′ : m ≡ true = search parts in
-    rw (g′, e′, p′, s′, v′, m′))
+shuffle true true true true v m = simp and-yes
+shuffle true true true false v m = simp and-no
+shuffle true true false s v m = refl
+shuffle true false p s v m = simp and-no
+shuffle false e p s v m = simp and-no
 
 module _ (h : Hall) (ts b : List ℕ) where
   pub not-fits : (length b ≡ words * records h → ⊥) → false ≡ sound h ts b

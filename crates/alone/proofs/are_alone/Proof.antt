@@ -5,20 +5,21 @@ use native.Mathlib.Omega.{arith}
 use borrow.Author.Tests.{not-true, not-false}
 use Rattle.rules.specs.Hall.{carnets, lines}
 use Rattle.groups.specs.Together.{heldIn}
-use Rattle.alone.specs.Alone.{begunIn}
-use Rattle.alone.proofs.Begun.{Alone, alone-all, alone-end, alone-no, alone-yes}
+use Rattle.laws.proofs.Pairs.{Behind, behind-all, behind-end, behind-no, behind-yes}
+use Rattle.alone.specs.Alone.{begunIn, allAlone}
+use Rattle.alone.proofs.Begun.{alone-each}
 use borrow.Author.Needs.{needs}
 use Rattle.alone.proofs.are_alone.Statement.{statement}
 use Rattle.alone.proofs.are_alone.Tie as tie
 
 abbrev Inv-loop : tie.InvT-loop
-Inv-loop h list book k pairs i₀ i = Alone list (heldIn book (carnets h)) (begunIn book (lines h)) k pairs i
+Inv-loop h list book k pairs i₀ i = Behind (allAlone list (heldIn book (carnets h)) (begunIn book (lines h))) k pairs i
 
 abbrev μ-loop : tie.MeasureT-loop
 μ-loop h list book k pairs i₀ i = k - i
 
 loop-holds : tie.Need-loop-holds Inv-loop μ-loop
-loop-holds c = alone-all _ _ _ _ _
+loop-holds c = behind-all (alone-each _ _ _) _ _
 
 mul-is-alone : tie.Need-mul-is-alone Inv-loop μ-loop
 mul-is-alone c = search needs
@@ -50,7 +51,7 @@ is-alone-requires c κs = search needs
 returns : tie.Need-returns Inv-loop μ-loop
 returns c =
     let l = c .before .before .before .before .before in
-    alone-no _ _ _ _ _ (l .loop .i) (l .loop .inv) (c .before .before .before .before .loop-test .taken) (sym (c .before .is-alone .ensures) ∙ not-true _ (c .if1 .taken))
+    behind-no (alone-each _ _ _) _ _ (l .loop .i) (l .loop .inv) (c .before .before .before .before .loop-test .taken) (sym (c .before .is-alone .ensures) ∙ not-true _ (c .if1 .taken))
 
 add-i : tie.Need-add-i Inv-loop μ-loop
 add-i c = search needs
@@ -61,10 +62,10 @@ loop-less c = search needs
 loop-again : tie.Need-loop-again Inv-loop μ-loop
 loop-again c =
     let l = c .before .before .before .before .before in
-    alone-yes _ _ _ _ _ (l .loop .i) (l .loop .inv) (c .before .before .before .before .loop-test .taken) (sym (c .before .is-alone .ensures) ∙ not-false _ (c .if1 .left))
+    behind-yes (alone-each _ _ _) _ _ (l .loop .i) (l .loop .inv) (c .before .before .before .before .loop-test .taken) (sym (c .before .is-alone .ensures) ∙ not-false _ (c .if1 .left))
 
 returns-2 : tie.Need-returns-2 Inv-loop μ-loop
-returns-2 c = alone-end _ _ _ _ _ _ (c .before .loop .inv) (c .loop-test .left)
+returns-2 c = behind-end (alone-each _ _ _) _ _ _ (c .before .loop .inv) (c .loop-test .left)
 
 pub are-alone-spec : {M : Type 1} → statement M
 are-alone-spec =

@@ -3,19 +3,21 @@ use mathlib.Core.Path.{sym, _∙_}
 use Prim.Native.Nat.{_+_, _-_, _*_}
 use native.Mathlib.Omega.{arith}
 use borrow.Author.Tests.{not-true, not-false}
-use Rattle.pairs.proofs.Paired.{Good, good-all, good-end, good-no, good-yes}
+use Rattle.rules.specs.Slips.{slipsGood}
+use Rattle.laws.proofs.Pairs.{Behind, behind-all, behind-end, behind-no, behind-yes}
+use Rattle.pairs.proofs.Paired.{good-each}
 use borrow.Author.Needs.{needs}
 use Rattle.pairs.proofs.are_slips_good.Statement.{statement}
 use Rattle.pairs.proofs.are_slips_good.Tie as tie
 
 abbrev Inv-loop : tie.InvT-loop
-Inv-loop list d k pairs i₀ i = Good list d k pairs i
+Inv-loop list d k pairs i₀ i = Behind (slipsGood list d) k pairs i
 
 abbrev μ-loop : tie.MeasureT-loop
 μ-loop list d k pairs i₀ i = k - i
 
 loop-holds : tie.Need-loop-holds Inv-loop μ-loop
-loop-holds c = good-all _ _ _ _
+loop-holds c = behind-all (good-each _ _) _ _
 
 mul-is-slip-good : tie.Need-mul-is-slip-good Inv-loop μ-loop
 mul-is-slip-good c = search needs
@@ -47,7 +49,7 @@ is-slip-good-requires c κs = search needs
 returns : tie.Need-returns Inv-loop μ-loop
 returns c =
     let l = c .before .before .before .before .before in
-    good-no _ _ _ _ (l .loop .i) (l .loop .inv) (omega arith) (sym (c .before .is-slip-good .ensures) ∙ not-true _ (c .if1 .taken))
+    behind-no (good-each _ _) _ _ (l .loop .i) (l .loop .inv) (omega arith) (sym (c .before .is-slip-good .ensures) ∙ not-true _ (c .if1 .taken))
 
 add-i : tie.Need-add-i Inv-loop μ-loop
 add-i c = search needs
@@ -58,10 +60,10 @@ loop-less c = search needs
 loop-again : tie.Need-loop-again Inv-loop μ-loop
 loop-again c =
     let l = c .before .before .before .before .before in
-    good-yes _ _ _ _ (l .loop .i) (l .loop .inv) (omega arith) (sym (c .before .is-slip-good .ensures) ∙ not-false _ (c .if1 .left))
+    behind-yes (good-each _ _) _ _ (l .loop .i) (l .loop .inv) (omega arith) (sym (c .before .is-slip-good .ensures) ∙ not-false _ (c .if1 .left))
 
 returns-2 : tie.Need-returns-2 Inv-loop μ-loop
-returns-2 c = good-end _ _ _ _ _ (c .before .loop .inv) (c .loop-test .left)
+returns-2 c = behind-end (good-each _ _) _ _ _ (c .before .loop .inv) (c .loop-test .left)
 
 pub are-slips-good-spec : {M : Type 1} → statement M
 are-slips-good-spec =
