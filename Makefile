@@ -1,6 +1,6 @@
 # The worked example: the twelve steps of the listing, proved over the definitions of both books.
 example:
-	rt check rules
+	rt check twelve
 
 # The gate, as it runs before anything lands.
 test:

@@ -6,3 +6,5 @@ pub mod SameRun
 pub mod Agree
 pub mod Agreement
 pub mod SlipBook
+pub mod Ready
+pub mod Ahead

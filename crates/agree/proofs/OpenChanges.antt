@@ -13,7 +13,8 @@ use Rattle.rules.specs.Steps.{dealt, Change, _≔_, putAll}
 use Rattle.rules.proofs.Tests.{same, below}
 use Rattle.laws.proofs.Blocks.{block-ext}
 use Rattle.laws.proofs.Places.{Inside, inside-below}
-use Rattle.laws.proofs.Changes.{at, Each, each-both, Fit, apart, lookup, put-long, put-here, put-off, all-long, all-at, all-each}
+use Rattle.rules.proofs.Named.{Each}
+use Rattle.laws.proofs.Changes.{at, each-both, Fit, apart, lookup, put-long, put-here, put-off, all-long, all-at, all-each}
 use Rattle.laws.proofs.Opened.{opened-long, open-long, open-same, open-line}
 use Rattle.laws.proofs.ReflectSlips.{SlipSound}
 use Rattle.laws.proofs.SlipLines.{line-more}

@@ -10,7 +10,8 @@ use Rattle.rules.specs.Steps.{changes, effect}
 use Rattle.rules.specs.Verdicts.{verdict, step, steps}
 use Rattle.rules.proofs.Tests.{same}
 use Rattle.rules.proofs.Stepping.{step-granted, step-refused, step-verdict}
-use Rattle.laws.proofs.Changes.{Each, Fit}
+use Rattle.rules.proofs.Named.{Each}
+use Rattle.laws.proofs.Changes.{Fit}
 use Rattle.laws.proofs.ReflectSlips.{SlipSound, slip-sound-facts, slip-sound-test}
 use Rattle.rules.proofs.Granted.{granted-good, kind-from, kind-to}
 use Rattle.keeps.proofs.Fits.{fits, changes-apart}

@@ -16,6 +16,7 @@ use Rattle.laws.proofs.Opened.{open-same}
 use Rattle.laws.proofs.ReflectSlips.{SlipSound, slip-sound-facts, SlipLine, slip-line-facts}
 use Rattle.keeps.proofs.Keeps.{Kept, kept}
 use Rattle.keeps.proofs.Nothing.{Tidies, Still, still, made-as-it-stands}
+use Rattle.keeps.proofs.Origin.{Lines}
 use Rattle.keeps.proofs.Tenants.{Tenants, tenants}
 use Rattle.laws.proofs.SlipLines.{tokens-length}
 use Rattle.agree.proofs.SameVerdict.{opened-book, word-amount, word-count, word-sales, dealt-small, count-small}
@@ -25,10 +26,9 @@ use Rattle.agree.proofs.SameRun.{slip-keeps}
 pub slip-kept : Kept slip
 slip-kept = kept slip slip-keeps
 
-pub slip-tenants : Tenants slip
+pub slip-lines : Lines slip
 unfolding slipTokens openSlips made filled sales
-slip-tenants =
-    tenants slip slip-regular
+slip-lines =
     record {
       none = λ ts. (refl, refl);
       sold = λ h ts b e v k. slip-sold h ts b e v k .opens;
@@ -38,6 +38,9 @@ slip-tenants =
           let u : k < records h = inside-below h (Line m c) i in
           tokens-length ts (dealt b) (recordAt k b) (dealt-small h ts b ok) (slip-line-facts ts (dealt b) (recordAt k b) (ok .lines k (omega arith) u)) (count-small h ts b ok k u);
     }
+
+pub slip-tenants : Tenants slip
+slip-tenants = tenants slip slip-regular slip-lines
 
 -- all records but the lines are those of the opened book
 slip-tidies : Tidies slip

@@ -14,7 +14,7 @@ use Rattle.laws.proofs.Blocks.{block-size}
 use Rattle.laws.proofs.Parts.{part-rest}
 use Rattle.laws.proofs.Pairs.{pairs-all, pairs-next, pairs-end, Each}
 use Rattle.laws.proofs.Occurrences.{occ-equal, occ-unequal}
-use Rattle.words.proofs.Laying.{drop-least}
+use Rattle.words.proofs.Least.{drop-least}
 use Rattle.groups.specs.Together.{heldIn, apart}
 use Rattle.opening.proofs.Opening.{pairs-fit}
 use Rattle.alone.specs.Alone.{firsts, begunIn, alone, allAlone}

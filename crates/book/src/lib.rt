@@ -1,11 +1,9 @@
-// The book's records: each is read as a part of the book, and written as one by a single writer. And the empty book.
+// The book's records, each read as a part of the book; how long a hall's book is, and the hall in use.
 ghost use mathlib.Core.Path.{_≡_};
-ghost use mathlib.Core.List.{_∷_, _++_};
-ghost use Prim.Native.Nat.{_+_, _*_, _-_, _≤_, _<_};
-ghost use lib.ListN.{length, drop, getD, replicate};
-ghost use Rattle.rules.specs.Hall.{mainHall, mostHeld, records};
-ghost use Rattle.rules.specs.Records.{words, inUse, amount, count, sales, cells, held, filled, made, recordAt, put};
-ghost use Rattle.rules.specs.Bytes.{makeEmpty};
+ghost use Prim.Native.Nat.{_+_, _*_, _≤_, _<_};
+ghost use lib.ListN.{length, getD};
+ghost use Rattle.rules.specs.Hall.{records};
+ghost use Rattle.rules.specs.Records.{words, inUse, amount, count, sales, cells, held, recordAt};
 use rules::Hall;
 
 // ---- a record, read
@@ -81,76 +79,7 @@ pub fn tokens_at(book: &[u32], k: usize) -> &[u32]
     tokens_of(record_at(book, k))
 }
 
-// ---- a record, written
-
-// Every word 0.
-pub fn wipe(part: &mut [u32])
-    ensures { λ _. ⌜ now (part .exit) ≡ replicate (length (now (part .entry))) 0 ⌝ }
-{
-    let mut i = 0;
-    while i < part.len() {
-        part[i] = 0;
-        i += 1;
-    }
-}
-
-fn write_head(rec: &mut [u32], used: u32, amount: u32, count: u32, sales: u32)
-    requires { ⌜ 4 ≤ length (now rec) ⌝ }
-    ensures { λ _. ⌜ now (rec .exit) ≡ used ∷ amount ∷ count ∷ sales ∷ drop 4 (now (rec .entry)) ⌝ }
-{
-    rec[0] = used;
-    rec[1] = amount;
-    rec[2] = count;
-    rec[3] = sales;
-}
-
-// The cells that are filled, and zeros over what stood behind them.
-fn write_cells(cells: &mut [u32], new: &[u32])
-    requires { ⌜ length (now new) ≤ length (now cells) ⌝ }
-    ensures { λ _. ⌜ now (cells .exit) ≡ now (new .entry) ++ replicate (length (now (cells .entry)) - length (now (new .entry))) 0 ⌝ }
-{
-    words::lay(cells, new);
-    let n = new.len();
-    wipe(&mut cells[n..]);
-}
-
-// The one record writer.
-pub fn write_record(rec: &mut [u32], used: u32, amount: u32, count: u32, sales: u32, cells: &[u32])
-    requires { ⌜ (length (now rec) ≡ words) × (length (now cells) ≤ mostHeld) ⌝ }
-    ensures { λ _. ⌜ now (rec .exit) ≡ filled used amount count sales (now (cells .entry)) ⌝ }
-{
-    write_head(rec, used, amount, count, sales);
-    write_cells(&mut rec[4..], cells);
-}
-
-// Record k, lent to the writer as a part from the book's middle.
-pub fn put_record(
-    book: &mut [u32],
-    k: usize,
-    used: u32,
-    amount: u32,
-    count: u32,
-    sales: u32,
-    cells: &[u32],
-)
-    requires { ⌜ (words * k + words ≤ length (now book)) × (length (now cells) ≤ mostHeld) ⌝ }
-    ensures { λ _. ⌜ now (book .exit) ≡ put k (filled used amount count sales (now (cells .entry))) (now (book .entry)) ⌝ }
-{
-    let from = 36 * k;
-    let to = from + 36;
-    write_record(&mut book[from..to], used, amount, count, sales, cells);
-}
-
-// Record k, in use and holding the tokens.
-pub fn put_made(book: &mut [u32], k: usize, amount: u32, sales: u32, tokens: &[u32])
-    requires { ⌜ (words * k + words ≤ length (now book)) × (length (now tokens) ≤ mostHeld) ⌝ }
-    ensures { λ _. ⌜ now (book .exit) ≡ put k (made amount sales (now (tokens .entry))) (now (book .entry)) ⌝ }
-{
-    let n = tokens.len() as u32;
-    put_record(book, k, 1, amount, n, sales, tokens);
-}
-
-// ---- the empty book
+// ---- the whole book
 
 // The bound keeps the product in range, and every hall planned is below it.
 pub fn book_words(h: Hall) -> usize
@@ -162,27 +91,8 @@ pub fn book_words(h: Hall) -> usize
     36 * (1 + 2 * c + 2 * b + c * b)
 }
 
-pub fn make_empty_of(h: Hall, book: &mut [u32]) -> u8
-    requires { ⌜ (h .customers ≤ 64) × (h .benches ≤ 64) ⌝ }
-    ensures { λ r. ⌜ (r ≡ makeEmpty h (now (book .entry)) .number) × (now (book .exit) ≡ makeEmpty h (now (book .entry)) .cells) ⌝ }
-{
-    if book.len() != book_words(h) {
-        return 1;
-    }
-    wipe(book);
-    let none = [0u32; 0];
-    put_made(book, 0, 0, 0, &none);
-    0
-}
-
 // The hall in use, `mainHall`.
 pub const MAIN: Hall = Hall {
     customers: 16,
     benches: 8,
 };
-
-pub fn make_empty(book: &mut [u32]) -> u8
-    ensures { λ r. ⌜ (r ≡ makeEmpty mainHall (now (book .entry)) .number) × (now (book .exit) ≡ makeEmpty mainHall (now (book .entry)) .cells) ⌝ }
-{
-    make_empty_of(MAIN, book)
-}

@@ -19,7 +19,8 @@ use Rattle.laws.proofs.Reflect.{Parties, Book, facts-sound}
 use Rattle.laws.proofs.Asked.{record-test, place-desk, place-carnet, place-view, place-till, place-line, line-test}
 use Rattle.laws.proofs.Books.{Known, nowhere, fresh-once, record-more}
 use Rattle.laws.proofs.Places.{Inside, spends, sees, seesCustomer, spends-group, sees-group, seesCustomer-group, Same, Differ, apart-or-same}
-use Rattle.laws.proofs.Changes.{at, Each, Fit, apart, lookup, loss, gain, all-long, all-at, all-each, all-sum}
+use Rattle.rules.proofs.Named.{Each}
+use Rattle.laws.proofs.Changes.{at, Fit, apart, lookup, loss, gain, all-long, all-at, all-each, all-sum}
 
 -- ---- a good new record, by its place, with d tokens dealt
 abbrev pub New : Hall → List ℕ → ℕ → Place → List ℕ → Type 0

@@ -19,7 +19,8 @@ use Rattle.laws.proofs.Reflect.{Parties, Book}
 use Rattle.laws.proofs.Asked.{LineGood}
 use Rattle.laws.proofs.Books.{Known, held-few, full-at, facts-at, known-at, dealt-few, desk-used, till-different, line-at, fresh-different, fresh-known, fresh-long}
 use Rattle.laws.proofs.Places.{Inside, inside-below, spends-group, benchOf, customerOf, Same, Differ, apart-or-same}
-use Rattle.laws.proofs.Changes.{at, Each, Fit}
+use Rattle.rules.proofs.Named.{Each}
+use Rattle.laws.proofs.Changes.{at, Fit}
 use Rattle.keeps.proofs.Fine.{new-carnet, new-view, new-bench, new-till, new-line, new-desk, together-kept, Fine}
 
 -- a record in its place or another's: in use alike, and in use where it was

@@ -1,11 +1,11 @@
--- A granted step changes whole records inside the hall, all apart, and only the desk's and those of the parties it names.
+-- A granted step changes whole records inside the hall, all apart.
 use mathlib.Core.Path.{_≡_, refl, sym, subst}
 use Prim.Native.Nat.{_≤_, _<_}
 use native.Mathlib.Omega.{arith}
 use lib.ListN.{length-append, length-take, length-drop}
 use Rattle.rules.specs.declared.Hall.{Hall}
 use Rattle.rules.specs.declared.Entry.{Entry}
-use Rattle.rules.specs.Lists.{ℕ, _*_, min, Bool, true, List, [], _++_, length, take, drop, occ, without}
+use Rattle.rules.specs.Lists.{ℕ, _*_, min, true, List, [], _++_, length, take, drop, without}
 use Rattle.rules.specs.Hall.{mostHeld, Place, Desk, Carnet, View, BenchView, Till, Line, number, records}
 use Rattle.rules.specs.Records.{words, held, made, recordAt}
 use Rattle.rules.specs.Tape.{Sell, kindOf, usesBench, usesCustomer}
@@ -17,35 +17,11 @@ use Rattle.laws.proofs.Made.{filled-long, made-long}
 use Rattle.laws.proofs.Reflect.{sound-facts}
 use Rattle.laws.proofs.Books.{held-few}
 use Rattle.laws.proofs.Places.{Inside}
-use Rattle.laws.proofs.Changes.{Each, each-both, Fit, apart}
+use Rattle.rules.proofs.Named.{Each, Named, changes-named}
+use Rattle.laws.proofs.Changes.{each-both, Fit, apart}
 use Rattle.rules.proofs.Granted.{kinds, kind-from, kind-to, bench-inside, customer-inside, stock-few, update-room, sell-room}
 
--- the desk's place, and those of the parties that a step of kind k names
-abbrev pub Named : Entry → ℕ → Place → Type 0
-Named e k Desk = Unit {0}
-Named e k (Carnet c) = (usesCustomer k ≡ true) × (c ≡ e .customer)
-Named e k (View c) = (usesCustomer k ≡ true) × (c ≡ e .customer)
-Named e k (BenchView m) = (usesBench k ≡ true) × (m ≡ e .bench)
-Named e k (Till m) = (usesBench k ≡ true) × (m ≡ e .bench)
-Named e k (Line m c) = ((usesBench k ≡ true) × (m ≡ e .bench)) × ((usesCustomer k ≡ true) × (c ≡ e .customer))
-
 module _ (f : Form) (h : Hall) (ts b : List ℕ) (e : Entry) where
-  pub changes-named : (k : ℕ) → 1 ≤ k → k ≤ 9 → Each (λ p r. Named e k p) (changes h b e f ts k)
-  unfolding changes joining dealing updating stocking selling authenticating clearing occ
-  changes-named =
-      let m : (_≡_ {A = Bool} true true) × (e .bench ≡ e .bench) = (refl, refl) in
-      let c : (_≡_ {A = Bool} true true) × (e .customer ≡ e .customer) = (refl, refl) in
-      kinds (λ k. Each (λ p r. Named e k p) (changes h b e f ts k))
-      (c, (c, tt))
-      (m, (m, tt))
-      ((m, c), tt)
-      (c, (c, (tt, tt)))
-      (m, (m, (tt, tt)))
-      (c, ((m, c), tt))
-      (m, (m, tt))
-      (m, (m, tt))
-      (c, (m, ((m, c), tt)))
-
   pub changes-apart : (k : ℕ) → 1 ≤ k → k ≤ 9 → apart (changes h b e f ts k) ≡ true
   unfolding changes joining dealing updating stocking selling authenticating clearing
   changes-apart = kinds (λ k. apart (changes h b e f ts k) ≡ true) refl refl refl refl refl refl refl refl refl

@@ -15,7 +15,8 @@ use Rattle.rules.proofs.Stepping.{step-granted, step-refused, step-verdict}
 use Rattle.laws.proofs.Places.{Inside}
 use Rattle.laws.proofs.Changes.{at, all-outside}
 use Rattle.rules.proofs.Granted.{granted-good, kind-from, kind-to}
-use Rattle.keeps.proofs.Fits.{Named, changes-named, Regular, fits}
+use Rattle.rules.proofs.Named.{Named, changes-named}
+use Rattle.keeps.proofs.Fits.{Regular, fits}
 
 -- bench m's till, desk's view and lines are the same in two books
 pub record SameBench (h : Hall) (b b′ : List ℕ) (m : ℕ) : Type 0 where

@@ -19,7 +19,8 @@ use Rattle.rules.proofs.Running.{then, steps-answer, run-does, run-granted, run
 use Rattle.laws.proofs.Reflect.{Book, sound-facts}
 use Rattle.laws.proofs.Books.{facts-at, line-at}
 use Rattle.laws.proofs.Places.{inside-below}
-use Rattle.laws.proofs.Changes.{Each, Fit}
+use Rattle.rules.proofs.Named.{Each}
+use Rattle.laws.proofs.Changes.{Fit}
 use Rattle.rules.proofs.Granted.{kinds, granted-good, kind-from, kind-to, bench-inside, customer-inside, new-customer, has-bench, has-customer, has-line, join-budget, stock-few, update-budget, update-room, update-left, sell-enough, sell-room, sell-few, clear-lives}
 use Rattle.keeps.proofs.Fits.{changes-apart, fits, plain-regular}
 use Rattle.keeps.proofs.Fine.{Fine, fine-keeps}

@@ -74,10 +74,9 @@ tenants f regular line =
     }
 
 -- ---- the plain book
-pub plain-tenants : Tenants plain
+pub plain-lines : Lines plain
 unfolding held count occ
-plain-tenants =
-    tenants plain plain-regular
+plain-lines =
     record {
       none = λ ts. (refl, made-held 0 0 []);
       sold = λ h ts b e v k.
@@ -89,3 +88,6 @@ plain-tenants =
           (full-at h ts b ok (number h (Line (e .bench) (e .customer))) (inside-below h (Line (e .bench) (e .customer)) (m, c)));
       counted = λ h ts b g m c i. full-at h ts b (sound-facts h ts b g) (number h (Line m c)) (inside-below h (Line m c) i);
     }
+
+pub plain-tenants : Tenants plain
+plain-tenants = tenants plain plain-regular plain-lines

@@ -10,6 +10,7 @@ use Rattle.rules.specs.Hall.{Place, number, records}
 use Rattle.rules.specs.Records.{words, recordAt, put}
 use Rattle.rules.specs.Steps.{Change, _≔_, putAll}
 use Rattle.rules.proofs.Tests.{same, and-left, and-right}
+use Rattle.rules.proofs.Named.{Each}
 use Rattle.laws.proofs.Sums.{sum-weighed}
 use Rattle.laws.proofs.Blocks.{block-same, block-other, block-length}
 use Rattle.laws.proofs.Places.{Inside, inside-below, Group, samePlace, Same, Differ, apart-or-same}
@@ -17,11 +18,6 @@ use Rattle.laws.proofs.Places.{Inside, inside-below, Group, samePlace, 
 -- the record at a place
 abbrev pub at : Hall → List ℕ → Place → List ℕ
 at h b p = recordAt (number h p) b
-
--- what G says of every change
-abbrev pub Each : (Place → List ℕ → Type 0) → List Change → Type 0
-Each G [] = Unit {0}
-Each G ((p ≔ r) ∷ cs) = G p r × Each G cs
 
 pub each-map : (G G′ : Place → List ℕ → Type 0) → ((p : Place) (r : List ℕ) → G p r → G′ p r) → (cs : List Change) → Each G cs → Each G′ cs
 each-map G G′ f [] e = tt

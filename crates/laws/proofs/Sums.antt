@@ -1,10 +1,10 @@
 -- Sums over a group of numbers, where one number's share changes.
 use mathlib.Core.Path.{_≡_, refl, sym, ap}
 use mathlib.Core.Logic.{⊎-elim}
-use Prim.Native.Nat.{_≤_}
+use Prim.Native.Nat.{_≤_, _<_}
 use native.Mathlib.Omega.{arith}
 use borrow.Author.Tests.{eq-eqb, ne-eqb}
-use Rattle.rules.specs.Lists.{ℕ, _+_, _*_, List, [], _∷_, occ, sumOf}
+use Rattle.rules.specs.Lists.{ℕ, zero, suc, _+_, _*_, List, [], _∷_, range, occ, sumOf}
 use Rattle.rules.proofs.Tests.{same}
 use Rattle.laws.proofs.Occurrences.{occ-unequal}
 
@@ -21,6 +21,13 @@ part-of-sum f k (j ∷ ks) l =
     (λ (e : k ≡ j). omega (arith, ap f e))
     (λ (e : k ≡ j → ⊥). omega (arith, part-of-sum f k ks (omega (arith, occ-unequal k j ks e))))
     (same k j)
+
+-- flags of n numbers add up to n at most
+pub sum-flags : (f : ℕ → ℕ) (a n : ℕ) → ((k : ℕ) → a ≤ k → k < a + n → f k ≤ 1) → sumOf f (range a n) ≤ n
+unfolding sumOf range
+sum-flags f a zero l = omega arith
+sum-flags f a (suc n) l =
+    omega (arith, l a (omega arith) (omega arith), sum-flags f (suc a) n (λ k u v. l k (omega (arith, u)) (omega (arith, v))))
 
 -- two functions that agree off k, which may stand in ks any number of times
 pub sum-weighed : (f f′ : ℕ → ℕ) (k : ℕ) → ((j : ℕ) → (j ≡ k → ⊥) → f′ j ≡ f j)

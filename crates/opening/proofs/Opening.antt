@@ -15,8 +15,8 @@ use Rattle.laws.proofs.Parts.{part-most, part-rest, back-rest}
 use Rattle.laws.proofs.Blocks.{block-length}
 use Rattle.laws.proofs.Opened.{opened-long}
 use Rattle.laws.proofs.Zeros.{zeros}
-use Rattle.words.specs.Laid.{laid}
-use Rattle.words.proofs.Laying.{laid-nothing, laid-all, laid-behind}
+use Rattle.laying.specs.Laid.{laid}
+use Rattle.laying.proofs.Laying.{laid-nothing, laid-all, laid-behind}
 
 -- ---- one slip
 pub slip-taken : (ts : List ℕ) (t n p m : ℕ) → p ≡ placeOf t ts → m ≡ min n (length ts - p)

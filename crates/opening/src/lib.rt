@@ -5,7 +5,7 @@ ghost use lib.ListN.{length};
 ghost use Rattle.rules.specs.Hall.{records};
 ghost use Rattle.rules.specs.Records.{words};
 ghost use Rattle.rules.specs.Slips.{openSlip, openSlips, openedLine, openBook};
-ghost use Rattle.words.specs.Laid.{laid};
+ghost use Rattle.laying.specs.Laid.{laid};
 use rules::Hall;
 
 // The part of the list that a slip stands for: n tokens from its first one's place, or as many as there are.
@@ -27,7 +27,7 @@ pub fn open_slips(list: &[u32], left: usize, pairs: &[u32], out: &mut [u32])
         return;
     }
     let tokens = slip_part(list, pairs[0], pairs[1] as usize);
-    words::lay(out, tokens);
+    laying::lay(out, tokens);
     let m = words::smaller(tokens.len(), out.len());
     let fewer = left - 1;
     open_slips(list, fewer, &pairs[2..], &mut out[m..]);
@@ -40,7 +40,7 @@ fn open_line(list: &[u32], rec: &[u32], out: &mut [u32])
 {
     let none = [0u32; 0];
     let sales = book::sales(rec);
-    book::write_record(
+    writer::write_record(
         out,
         book::in_use(rec),
         book::amount(rec),
@@ -60,7 +60,7 @@ pub fn open_all(h: Hall, list: &[u32], slips: &[u32], plain: &mut [u32])
     let lines = 1 + 2 * h.customers + 2 * h.benches;
     let n = lines + h.customers * h.benches;
     let front = 36 * lines;
-    words::lay(plain, &slips[..front]);
+    laying::lay(plain, &slips[..front]);
     let mut k = lines;
     while k < n {
         let from = 36 * k;

@@ -55,3 +55,10 @@ pub first-past : (rules more : List Rule) → AllFalse rules → first (rules ++
 unfolding first
 first-past [] more n = refl
 first-past ((k ⇐ test) ∷ rules) more n = rw (n .0) (first-past rules more (n .1))
+
+-- a table that answers is not gone on with
+pub first-refuses : (rules more : List Rule) (r : ℕ) → r ≡ first rules → (r ≡ 0 → ⊥) → r ≡ first (rules ++ more)
+unfolding first
+first-refuses [] more r e n = absurd (n e)
+first-refuses ((k ⇐ true) ∷ rules) more r e n = e
+first-refuses ((k ⇐ false) ∷ rules) more r e n = first-refuses rules more r e n

@@ -1,5 +1,4 @@
 pub mod Unfolded
-pub mod Cases
 pub mod Numbers
 pub mod Tests
 pub mod Answering
@@ -8,4 +7,6 @@ pub mod Running
 pub mod Words
 pub mod Writing
 pub mod Granted
+pub mod Named
+pub mod Spent
 pub mod Searching

@@ -1,4 +1,4 @@
-pub mod Used
+pub mod ByKind
 pub mod Eight
 pub mod Reader
 pub mod Writer

@@ -2,20 +2,13 @@
 use mathlib.Core.Path.{_≡_, refl, sym, _∙_}
 use native.Mathlib.Omega.{arith}
 use borrow.Author.Tests.{eqb-true, ne-eqb, not-false}
-use Rattle.rules.specs.Lists.{ℕ, true, false, not, eqb, List, [], _∷_, _++_, length}
+use Rattle.rules.specs.Lists.{ℕ, not, eqb, List, [], _∷_, _++_, length}
 use Rattle.rules.specs.Answers.{Rule, _⇐_, first, answer}
 use Rattle.rules.specs.Tape.{eightBytes, entryRules, writeEntry}
 use Rattle.rules.specs.declared.Entry.{Entry}
 use Rattle.rules.specs.declared.Hall.{Hall}
-use Rattle.rules.proofs.Answering.{answer-refused, AllFalse, all-false, first-past}
+use Rattle.rules.proofs.Answering.{answer-refused, AllFalse, all-false, first-past, first-refuses}
 use Rattle.rules.proofs.Writing.{write-entry}
-
--- a number that is given is given whatever the table goes on with
-first-stops : (rules more : List Rule) → (first rules ≡ 0 → ⊥) → first (rules ++ more) ≡ first rules
-unfolding first
-first-stops [] more given = absurd (given refl)
-first-stops ((n ⇐ true) ∷ rules) more given = refl
-first-stops ((n ⇐ false) ∷ rules) more given = first-stops rules more given
 
 -- the writer's own rule, behind those of the record
 abbrev partRule : List ℕ → List Rule
@@ -40,7 +33,7 @@ module _ (h : Hall) (e : Entry) (out : List ℕ) (n : ℕ) (judged : n ≡ first
 
   pub write-bad : (n ≡ 0 → ⊥) → Wrote h e out n out
   unfolding writeEntry answer
-  write-bad bad = refused n (first-stops (entryRules h e) _ (λ z. bad (judged ∙ z)) ∙ sym judged) bad
+  write-bad bad = refused n (sym (first-refuses (entryRules h e) _ n judged bad)) bad
 
   module _ (good : n ≡ 0) where
     pub write-cut : (length out ≡ 8 → ⊥) → Wrote h e out 16 out

@@ -5,75 +5,9 @@ ghost use mathlib.Core.Path.{_≡_};
 ghost use Prim.Native.Nat.{_+_, _≤_};
 ghost use Rattle.rules.specs.Lists.{_||_, not, leb, ltb, eqb, length, drop};
 ghost use Rattle.rules.specs.Answers.{first};
-ghost use Rattle.rules.specs.Tape.{usesBench, usesCustomer, usesAmount, wellFormed, inHall, entryRules, entryOf, eightBytes, readAt, writeEntry};
+ghost use Rattle.rules.specs.Tape.{entryRules, entryOf, eightBytes, readAt, writeEntry};
+ghost use Rattle.tape.specs.Fields.{formed, placed, fieldRules};
 ghost use Rattle.tape.specs.Reading.{reading};
-
-// The kinds that use a field, by the kind's number. 0, and what comes behind 9, is no kind and uses nothing.
-const BENCH: [bool; 12] = [
-    false,
-    false,
-    true,
-    true,
-    false,
-    true,
-    true,
-    true,
-    true,
-    true,
-    false,
-    false,
-];
-
-const CUSTOMER: [bool; 12] = [
-    false,
-    true,
-    false,
-    true,
-    true,
-    false,
-    true,
-    false,
-    false,
-    true,
-    false,
-    false,
-];
-
-const AMOUNT: [bool; 12] = [
-    false,
-    true,
-    false,
-    false,
-    true,
-    true,
-    true,
-    false,
-    false,
-    false,
-    false,
-    false,
-];
-
-fn uses_bench(kind: u8) -> bool
-    ensures { λ r. ⌜ r ≡ usesBench kind ⌝ }
-{
-    let k = kind as usize;
-    if k < 12 { BENCH[k] } else { false }
-}
-
-fn uses_customer(kind: u8) -> bool
-    ensures { λ r. ⌜ r ≡ usesCustomer kind ⌝ }
-{
-    let k = kind as usize;
-    if k < 12 { CUSTOMER[k] } else { false }
-}
-
-fn uses_amount(kind: u8) -> bool
-    ensures { λ r. ⌜ r ≡ usesAmount kind ⌝ }
-{
-    let k = kind as usize;
-    if k < 12 { AMOUNT[k] } else { false }
-}
 
 // Number 2, of one field: what isn't used is zero.
 fn is_used_or_zero(used: bool, x: u32) -> bool
@@ -95,47 +29,77 @@ fn is_unused_or_below(used: bool, x: u8, n: usize) -> bool
     (x as usize) < n
 }
 
-fn is_well_formed(e: Entry) -> bool
-    ensures { λ r. ⌜ r ≡ wellFormed e ⌝ }
+// Number 2, of all but the kind.
+fn is_formed(e: Entry, bench: bool, customer: bool, amount: bool) -> bool
+    ensures { λ r. ⌜ r ≡ formed e bench customer amount ⌝ }
 {
-    if e.kind < 1 {
-        return false;
-    }
-    if 9 < e.kind {
-        return false;
-    }
     if e.byte3 != 0 {
         return false;
     }
-    if !is_used_or_zero(uses_bench(e.kind), e.bench as u32) {
+    if !is_used_or_zero(bench, e.bench as u32) {
         return false;
     }
-    if !is_used_or_zero(uses_customer(e.kind), e.customer as u32) {
+    if !is_used_or_zero(customer, e.customer as u32) {
         return false;
     }
-    is_used_or_zero(uses_amount(e.kind), e.amount)
+    is_used_or_zero(amount, e.amount)
 }
 
-fn is_in_hall(h: Hall, e: Entry) -> bool
-    ensures { λ r. ⌜ r ≡ inHall h e ⌝ }
+fn is_placed(h: Hall, e: Entry, bench: bool, customer: bool) -> bool
+    ensures { λ r. ⌜ r ≡ placed h e bench customer ⌝ }
 {
-    if !is_unused_or_below(uses_bench(e.kind), e.bench, h.benches) {
+    if !is_unused_or_below(bench, e.bench, h.benches) {
         return false;
     }
-    is_unused_or_below(uses_customer(e.kind), e.customer, h.customers)
+    is_unused_or_below(customer, e.customer, h.customers)
 }
 
-// Numbers 2 and 3, or 0.
-pub fn judge(h: Hall, e: Entry) -> u8
-    ensures { λ r. ⌜ r ≡ first (entryRules h e) ⌝ }
+// Numbers 2 and 3, or 0, of a kind that uses the bench, the customer, the amount or not.
+fn fields(h: Hall, e: Entry, bench: bool, customer: bool, amount: bool) -> u8
+    ensures { λ r. ⌜ r ≡ first (fieldRules h e bench customer amount) ⌝ }
 {
-    if !is_well_formed(e) {
+    if !is_formed(e, bench, customer, amount) {
         return 2;
     }
-    if !is_in_hall(h, e) {
+    if !is_placed(h, e, bench, customer) {
         return 3;
     }
     0
+}
+
+// Numbers 2 and 3, or 0. The kind is looked at once; which of bench, customer and amount it uses is written out.
+pub fn judge(h: Hall, e: Entry) -> u8
+    ensures { λ r. ⌜ r ≡ first (entryRules h e) ⌝ }
+{
+    let kind = e.kind;
+    if kind == 1 {
+        return fields(h, e, false, true, true);
+    }
+    if kind == 2 {
+        return fields(h, e, true, false, false);
+    }
+    if kind == 3 {
+        return fields(h, e, true, true, false);
+    }
+    if kind == 4 {
+        return fields(h, e, false, true, true);
+    }
+    if kind == 5 {
+        return fields(h, e, true, false, true);
+    }
+    if kind == 6 {
+        return fields(h, e, true, true, true);
+    }
+    if kind == 7 {
+        return fields(h, e, true, false, false);
+    }
+    if kind == 8 {
+        return fields(h, e, true, false, false);
+    }
+    if kind == 9 {
+        return fields(h, e, true, true, false);
+    }
+    2
 }
 
 // A reader's place on the tape.
@@ -168,7 +132,8 @@ fn is_whole(n: usize, at: usize) -> bool
     true
 }
 
-fn entry_at(bytes: &[u8], at: usize) -> Entry
+// The record that stands at a place with 8 bytes left; whether it is refused is not asked.
+pub fn entry_at(bytes: &[u8], at: usize) -> Entry
     requires { ⌜ at + 8 ≤ length (now bytes) ⌝ }
     ensures { λ r. ⌜ r ≡ entryOf (drop at (now (bytes .entry))) ⌝ }
 {

@@ -9,7 +9,7 @@ use Rattle.opening.proofs.open_slips.Reads as reads
 use Rattle.opening.proofs.open_slips.Kinds as kinds
 use Rattle.opening.proofs.+open_slips.Lts-open_slips as lts
 use Rattle.opening.proofs.slip_part.Reads as slip-part
-use Rattle.words.proofs.lay.Reads as lay
+use Rattle.laying.proofs.lay.Reads as lay
 use Rattle.words.proofs.smaller.Reads as smaller
 use Rattle.opening.proofs.+open_slips.{statement}
 use Rattle.opening.proofs.+open_slips.Tie.{close}

@@ -1,7 +1,7 @@
 -- The part lent is the first n, or all.
 use mathlib.Core.Path.{ap, _∙_}
 use Rattle.rules.specs.Lists.{isIn}
-use Rattle.words.proofs.Laying.{take-least, least-size}
+use Rattle.words.proofs.Least.{take-least, least-size}
 use borrow.Author.Needs.{needs}
 use Rattle.words.proofs.is_among.Statement.{statement}
 use Rattle.words.proofs.is_among.Tie as tie

@@ -1,0 +1,24 @@
+-- Numbers 2 and 3 first; then the record's kind.
+use Rattle.desk.proofs.Kind.{step-malformed}
+use borrow.Author.Needs.{needs}
+use Rattle.desk.proofs.step_known.Statement.{statement}
+use Rattle.desk.proofs.step_known.Tie as tie
+
+judge-requires : tie.Need-judge-requires
+judge-requires c κs = search needs
+
+returns : tie.Need-returns
+returns c = let s = c .before .before .before .before in step-malformed _ _ _ _ _ _ (s .pre .good) (c .before .judge .ensures) (c .if1 .taken)
+
+step-kind-requires : tie.Need-step-kind-requires
+step-kind-requires c κs = search needs
+
+same-length : tie.Need-same-length
+same-length c = search needs
+
+returns-2 : tie.Need-returns-2
+returns-2 c = search needs
+
+pub step-known-spec : {M : Type 1} → statement M
+step-known-spec =
+    tie.close (tie.spec judge-requires returns step-kind-requires same-length returns-2)

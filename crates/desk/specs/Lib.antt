@@ -1,0 +1,2 @@
+-- What the contracts cite beside the rules: a book that is known to be sound.
+pub mod Known

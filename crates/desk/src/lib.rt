@@ -1,0 +1,147 @@
+// The desk's book: a step, and a run over a whole tape, in either form.
+// A run asks once whether the book is sound. From then on each step looks at the records that it names and at no others:
+// that a step leaves a sound book sound is a theorem.
+ghost use mathlib.Core.Path.{_≡_};
+ghost use Prim.Native.Nat.{_*_, _≤_};
+ghost use lib.ListN.{length};
+ghost use Rattle.rules.specs.Lists.{eqb};
+ghost use Rattle.rules.specs.Hall.{mainHall};
+ghost use Rattle.rules.specs.Answers.{first};
+ghost use Rattle.rules.specs.Tape.{entryRules, entries};
+ghost use Rattle.rules.specs.Verdicts.{step, steps, run};
+ghost use Rattle.lines.specs.Forms.{formOf};
+ghost use Rattle.desk.specs.Known.{Known};
+use lines::Form;
+use rules::Entry;
+use rules::Hall;
+
+pub fn is_good(form: Form, h: Hall, tokens: &[u32], book: &[u32]) -> bool
+    requires { ⌜ (h .customers ≤ 64) × (h .benches ≤ 64) ⌝ }
+    ensures { λ r. ⌜ r ≡ formOf form .good h (now (tokens .entry)) (now (book .entry)) ⌝ }
+{
+    match form {
+        Form::Plain => sound::is_sound_of(h, tokens, book),
+        Form::Slip => slips::is_sound_of(h, tokens, book),
+    }
+}
+
+// ---- over a book that is known to be sound
+
+// The record has passed numbers 1 to 3: its kind's own checks and changes.
+fn step_kind(form: Form, h: Hall, tokens: &[u32], book: &mut [u32], e: Entry) -> u8
+    requires { ⌜ Known (formOf form) h (now tokens) (now book) × (first (entryRules h e) ≡ 0) ⌝ }
+    ensures { λ r. ⌜ (r ≡ step (formOf form) h (now (tokens .entry)) (now (book .entry)) e .number) × (now (book .exit) ≡ step (formOf form) h (now (tokens .entry)) (now (book .entry)) e .cells) ⌝ }
+{
+    if e.kind == 1 {
+        return kinds::join_customer(h, book, e);
+    }
+    if e.kind == 2 {
+        return kinds::join_bench(h, book, e);
+    }
+    if e.kind == 3 {
+        return kinds::open_line(h, book, e);
+    }
+    if e.kind == 4 {
+        return kinds::update(h, tokens, book, e);
+    }
+    if e.kind == 5 {
+        return kinds::stock(h, tokens, book, e);
+    }
+    if e.kind == 6 {
+        return sales::sell(form, h, tokens, book, e);
+    }
+    if e.kind == 9 {
+        return sales::clear(form, h, tokens, book, e);
+    }
+    kinds::authenticate(h, book, e)
+}
+
+pub fn step_known(form: Form, h: Hall, tokens: &[u32], book: &mut [u32], e: Entry) -> u8
+    requires { ⌜ Known (formOf form) h (now tokens) (now book) ⌝ }
+    ensures { λ r. ⌜ (r ≡ step (formOf form) h (now (tokens .entry)) (now (book .entry)) e .number) × (now (book .exit) ≡ step (formOf form) h (now (tokens .entry)) (now (book .entry)) e .cells) ⌝ }
+{
+    let refused = tape::judge(h, e);
+    if refused != 0 {
+        return refused;
+    }
+    step_kind(form, h, tokens, book, e)
+}
+
+// Each record of the tape in its turn, and its verdict.
+pub fn run_known(
+    form: Form,
+    h: Hall,
+    tokens: &[u32],
+    book: &mut [u32],
+    tape: &[u8],
+    verdicts: &mut [u8],
+)
+    requires { ⌜ Known (formOf form) h (now tokens) (now book) × (length (now tape) ≡ 8 * length (now verdicts)) ⌝ }
+    ensures { λ _. ⌜ (now (book .exit) ≡ steps (formOf form) h (now (tokens .entry)) (now (book .entry)) (entries (length (now (verdicts .entry))) (now (tape .entry))) .book) × (now (verdicts .exit) ≡ steps (formOf form) h (now (tokens .entry)) (now (book .entry)) (entries (length (now (verdicts .entry))) (now (tape .entry))) .verdicts) ⌝ }
+{
+    let mut i = 0;
+    while i < verdicts.len() {
+        let e = tape::entry_at(tape, 8 * i);
+        verdicts[i] = step_known(form, h, tokens, book, e);
+        i += 1;
+    }
+}
+
+// ---- over any book
+
+pub fn step_of(form: Form, h: Hall, tokens: &[u32], book: &mut [u32], e: Entry) -> u8
+    requires { ⌜ (h .customers ≤ 64) × (h .benches ≤ 64) ⌝ }
+    ensures { λ r. ⌜ (r ≡ step (formOf form) h (now (tokens .entry)) (now (book .entry)) e .number) × (now (book .exit) ≡ step (formOf form) h (now (tokens .entry)) (now (book .entry)) e .cells) ⌝ }
+{
+    if !is_good(form, h, tokens, book) {
+        return 1;
+    }
+    step_known(form, h, tokens, book, e)
+}
+
+// A byte of the verdict buffer for each 8 of the tape. 8 times the buffer may not fit, so it's only formed where it does.
+fn is_one_each(bytes: usize, records: usize) -> bool
+    ensures { λ r. ⌜ r ≡ eqb bytes (8 * records) ⌝ }
+{
+    if bytes / 8 < records {
+        return false;
+    }
+    bytes == 8 * records
+}
+
+pub fn run_of(
+    form: Form,
+    h: Hall,
+    tokens: &[u32],
+    book: &mut [u32],
+    tape: &[u8],
+    verdicts: &mut [u8],
+) -> u8
+    requires { ⌜ (h .customers ≤ 64) × (h .benches ≤ 64) ⌝ }
+    ensures { λ r. ⌜ (r ≡ run (formOf form) h (now (tokens .entry)) (now (book .entry)) (now (tape .entry)) (now (verdicts .entry)) .answer) × (now (book .exit) ≡ run (formOf form) h (now (tokens .entry)) (now (book .entry)) (now (tape .entry)) (now (verdicts .entry)) .book) × (now (verdicts .exit) ≡ run (formOf form) h (now (tokens .entry)) (now (book .entry)) (now (tape .entry)) (now (verdicts .entry)) .verdicts) ⌝ }
+{
+    let good = is_good(form, h, tokens, book);
+    let whole = is_one_each(tape.len(), verdicts.len());
+    if !good {
+        return 1;
+    }
+    if !whole {
+        return 16;
+    }
+    run_known(form, h, tokens, book, tape, verdicts);
+    0
+}
+
+// ---- in the hall in use
+
+pub fn step(form: Form, tokens: &[u32], book: &mut [u32], e: Entry) -> u8
+    ensures { λ r. ⌜ (r ≡ step (formOf form) mainHall (now (tokens .entry)) (now (book .entry)) e .number) × (now (book .exit) ≡ step (formOf form) mainHall (now (tokens .entry)) (now (book .entry)) e .cells) ⌝ }
+{
+    step_of(form, book::MAIN, tokens, book, e)
+}
+
+pub fn run(form: Form, tokens: &[u32], book: &mut [u32], tape: &[u8], verdicts: &mut [u8]) -> u8
+    ensures { λ r. ⌜ (r ≡ run (formOf form) mainHall (now (tokens .entry)) (now (book .entry)) (now (tape .entry)) (now (verdicts .entry)) .answer) × (now (book .exit) ≡ run (formOf form) mainHall (now (tokens .entry)) (now (book .entry)) (now (tape .entry)) (now (verdicts .entry)) .book) × (now (verdicts .exit) ≡ run (formOf form) mainHall (now (tokens .entry)) (now (book .entry)) (now (tape .entry)) (now (verdicts .entry)) .verdicts) ⌝ }
+{
+    run_of(form, book::MAIN, tokens, book, tape, verdicts)
+}

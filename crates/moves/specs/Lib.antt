@@ -1,0 +1,2 @@
+-- What the contracts cite beside the rules: what a step has found out before it moves tokens.
+pub mod Found

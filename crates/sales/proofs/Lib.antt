@@ -1,0 +1,5 @@
+-- Laws over plain numbers and lists that the proofs of the functions cite.
+pub mod Chained
+pub mod Stood
+pub mod Sale
+pub mod Cleared

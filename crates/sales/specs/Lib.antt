@@ -1,0 +1,2 @@
+-- What the contracts cite beside the rules: the records that a sale and a clear name.
+pub mod Spots
