@@ -9,7 +9,7 @@ rowsOf joined row [] = []
 rowsOf joined row (k ∷ ks) = cond (eqb (joined k) 1) (row k ∷ rowsOf joined row ks) (rowsOf joined row ks)
 
 module _ (h : Hall) (b : List ℕ) where
-  -- number, budget, tokens in view, tokens in carnet
+  -- who it is, what budget is left, and how many tokens view and carnet hold
   unfoldable pub customerRows : List (List ℕ)
   customerRows =
       let at = rows (records h) b in
@@ -17,7 +17,7 @@ module _ (h : Hall) (b : List ℕ) where
       (λ c. let v = at (number h (View c)) in c ∷ amount v ∷ count v ∷ count (at (number h (Carnet c))) ∷ [])
       (range 0 (h .customers))
 
-  -- number, balance, tokens in till, tokens waiting in all its lines
+  -- who it is, what the desk owes it, how many tokens its till holds, and how many its lines
   unfoldable pub benchRows : List (List ℕ)
   benchRows =
       let at = rows (records h) b in
