@@ -1,6 +1,6 @@
 // The desk's book: a step, and a run over a whole tape, in either form.
-// A run asks once whether the book is sound. From then on each step looks at the records that it names and at no others:
-// that a step leaves a sound book sound is a theorem.
+// A run asks once whether the book is sound. From then on each step looks at the desk's own record and at those that it
+// names, and at no others: that a step leaves a sound book sound is a theorem.
 ghost use mathlib.Core.Path.{_≡_};
 ghost use Prim.Native.Nat.{_*_, _≤_};
 ghost use lib.ListN.{length};
