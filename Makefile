@@ -1,9 +1,10 @@
-# The worked example: the twelve steps of the listing, proved over the definitions of both books.
-example:
-	rt check twelve
+# Proves the walk and all below it, builds it, and walks the worked example.
+walk:
+	rt check walk
+	cd crates/walk/data && ../../../tools/walk < ../stdin
 
 # The gate, as it runs before anything lands.
 test:
 	.ci/run
 
-.PHONY: example test
+.PHONY: walk test

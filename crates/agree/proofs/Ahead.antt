@@ -25,11 +25,11 @@ take-set (x ∷ out) (suc i) v l =
 abbrev pub behind : ℕ → List ℕ → ℕ → List Entry
 behind n tape i = entries (n - i) (drop (8 * i) tape)
 
-behind-none : (n : ℕ) (tape : List ℕ) (i : ℕ) → n ≤ i → behind n tape i ≡ []
+pub behind-none : (n : ℕ) (tape : List ℕ) (i : ℕ) → n ≤ i → behind n tape i ≡ []
 unfolding entries
 behind-none n tape i l = let z : n - i ≡ 0 = omega arith in rw z
 
-behind-next : (n : ℕ) (tape : List ℕ) (i : ℕ) → i < n → behind n tape i ≡ entryOf (drop (8 * i) tape) ∷ behind n tape (i + 1)
+pub behind-next : (n : ℕ) (tape : List ℕ) (i : ℕ) → i < n → behind n tape i ≡ entryOf (drop (8 * i) tape) ∷ behind n tape (i + 1)
 unfolding entries
 behind-next n tape i l =
     let s : n - i ≡ suc (n - (i + 1)) = omega arith in

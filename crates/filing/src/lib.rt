@@ -1,11 +1,12 @@
-// A book on file: to bytes and back, in lent buffers. Lengths alone are tested.
+// On file, four bytes for each word: a book to bytes and back, of which lengths alone are tested, and a token list, which has to be good.
 ghost use mathlib.Core.Path.{_≡_};
-ghost use Prim.Native.Nat.{_*_, _≤_};
+ghost use Prim.Native.Nat.{_*_, _/_, _%_, _≤_};
 ghost use lib.ListN.{length};
 ghost use Rattle.rules.specs.Lists.{_&&_, eqb};
 ghost use Rattle.rules.specs.Hall.{mainHall, records};
 ghost use Rattle.rules.specs.Records.{words};
 ghost use Rattle.rules.specs.Bytes.{toBytes, toWords, writeBook, readBook};
+ghost use Rattle.rules.specs.Walk.{readList};
 use rules::Hall;
 
 // Each word's four bytes, one word after the other.
@@ -77,4 +78,36 @@ pub fn read_book(from: &[u8], out: &mut [u32]) -> u8
     ensures { λ r. ⌜ (r ≡ readBook mainHall (now (from .entry)) (now (out .entry)) .number) × (now (out .exit) ≡ readBook mainHall (now (from .entry)) (now (out .entry)) .cells) ⌝ }
 {
     read_book_of(book::MAIN, from, out)
+}
+
+// A token list, by way of a scratch as long as the list: it is judged there, since a refusal leaves the lent cells.
+fn take_list(list: &mut [u32], from: &[u8], out: &mut [u32]) -> u8
+    requires { ⌜ (length (now list) ≡ length (now from) / 4) × (length (now from) % 4 ≡ 0) × (length (now list) ≤ length (now out)) ⌝ }
+    ensures { λ r. ⌜ (r ≡ readList (now (from .entry)) (now (out .entry)) .number) × (now (out .exit) ≡ readList (now (from .entry)) (now (out .entry)) .cells) ⌝ }
+{
+    lay_words(list, from);
+    if !sound::is_good_list(list) {
+        return 1;
+    }
+    laying::lay(out, list);
+    0
+}
+
+// A token list, into the front of the lent cells.
+pub fn read_list(from: &[u8], out: &mut [u32]) -> u8
+    ensures { λ r. ⌜ (r ≡ readList (now (from .entry)) (now (out .entry)) .number) × (now (out .exit) ≡ readList (now (from .entry)) (now (out .entry)) .cells) ⌝ }
+{
+    let n = from.len() / 4;
+    if from.len() % 4 != 0 {
+        return 1;
+    }
+    if 4096 < n {
+        return 1;
+    }
+    if out.len() < n {
+        return 1;
+    }
+    let mut space = [0u32; 4096];
+    let scratch: &mut [u32] = &mut space;
+    take_list(&mut scratch[..n], from, out)
 }

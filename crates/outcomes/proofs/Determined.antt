@@ -102,6 +102,12 @@ use Rattle.filing.proofs.write_book_of.Reads as filing-write-book-of
 use Rattle.filing.proofs.read_book_of.Reads as filing-read-book-of
 use Rattle.filing.proofs.write_book.Reads as filing-write-book
 use Rattle.filing.proofs.read_book.Reads as filing-read-book
+use Rattle.filing.proofs.read_list.Reads as filing-read-list
+use Rattle.text.proofs.put_step.Reads as text-put-step
+use Rattle.text.proofs.put_party.Reads as text-put-party
+use Rattle.text.proofs.put_cut.Reads as text-put-cut
+use Rattle.accounts.proofs.put_accounts.Reads as accounts-put-accounts
+use Rattle.walking.proofs.walk_part.Reads as walking-walk-part
 
 -- L permits a result z and parameters e at exit; of these a caller sees what `seen` takes from them
 abbrev pub Determined : {Z E O : Type 0} → (Z → E → Type 0) → (Z → E → O) → Type 0
@@ -426,3 +432,24 @@ filing-write-book-seen κs a = determined _ _ _ (λ z e p. both (p .0) (p .1))
 
 filing-read-book-seen : (κs : _) (a : _) → Determined {O = ℕ × List ℕ} (filing-read-book.Learnt κs a) (λ z e. (z, e .1 .0 .now))
 filing-read-book-seen κs a = determined _ _ _ (λ z e p. both (p .0) (p .1))
+
+filing-read-list-seen : (κs : _) (a : _) → Determined {O = ℕ × List ℕ} (filing-read-list.Learnt κs a) (λ z e. (z, e .1 .0 .now))
+filing-read-list-seen κs a = determined _ _ _ (λ z e p. both (p .0) (p .1))
+
+-- ---- text
+text-put-step-seen : (κs : _) (a : _) → Determined {O = ℕ × List ℕ} (text-put-step.Learnt κs a) (λ z e. (z, e .0 .now))
+text-put-step-seen κs a = determined _ _ _ (λ z e p. both (p .0) (p .1))
+
+text-put-party-seen : (κs : _) (a : _) → Determined {O = ℕ × List ℕ} (text-put-party.Learnt κs a) (λ z e. (z, e .0 .now))
+text-put-party-seen κs a = determined _ _ _ (λ z e p. both (p .0) (p .1))
+
+text-put-cut-seen : (κs : _) (a : _) → Determined {O = ℕ × List ℕ} (text-put-cut.Learnt κs a) (λ z e. (z, e .0 .now))
+text-put-cut-seen κs a = determined _ _ _ (λ z e p. both (p .0) (p .1))
+
+-- ---- accounts
+accounts-put-accounts-seen : (κs : _) (a : _) → Determined {O = ℕ × List ℕ} (accounts-put-accounts.Learnt κs a) (λ z e. (z, e .0 .now))
+accounts-put-accounts-seen κs a = determined _ _ _ (λ z e p. both (p .0) (p .1))
+
+-- ---- walking
+walking-walk-part-seen : (κs : _) (a : _) → Determined {O = ℕ × (List ℕ × List ℕ)} (walking-walk-part.Learnt κs a) (λ z e. (z, (e .1 .1 .1 .0 .now, e .1 .1 .1 .1 .1 .1 .0 .now)))
+walking-walk-part-seen κs a = determined _ _ _ (λ z e p. both (p .0) (both (p .1) (p .2)))

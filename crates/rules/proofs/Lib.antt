@@ -1,4 +1,5 @@
 pub mod Unfolded
+pub mod Printed
 pub mod Numbers
 pub mod Tests
 pub mod Answering

@@ -10,4 +10,6 @@ pub mod Form
 pub mod Steps
 pub mod Verdicts
 pub mod Slips
+pub mod Text
 pub mod Listing
+pub mod Walk

@@ -1,0 +1,73 @@
+-- The list is good, and the book is made empty: known to be sound.
+use Prim.Native.Nat.{ℕ}
+use native.Mathlib.Omega.{arith}
+use lib.ListN.{length-take, length-replicate}
+use Rattle.walk.proofs.Walked.{empty-known}
+use borrow.Author.Needs.{needs}
+use Rattle.walk.proofs.main.Statement.{statement}
+use Rattle.walk.proofs.main.Tie as tie
+
+-- src/main.rt:113:23
+slice-aggregate-load-list : tie.Need-slice-aggregate-load-list
+slice-aggregate-load-list c = search needs
+
+-- src/main.rt:113:9
+load-list-requires : tie.Need-load-list-requires
+load-list-requires c κs = search needs
+
+-- src/main.rt:115:14
+slice-aggregate-show : tie.Need-slice-aggregate-show
+slice-aggregate-show c = search needs
+
+-- src/main.rt:115:9
+show-requires : tie.Need-show-requires
+show-requires c κs = search needs
+
+-- src/main.rt:116:9
+returns : tie.Need-returns
+returns c = search needs
+
+-- src/main.rt:119:24
+slice-aggregate-make-empty : tie.Need-slice-aggregate-make-empty
+slice-aggregate-make-empty c = search needs
+
+-- src/main.rt:119:5
+make-empty-requires : tie.Need-make-empty-requires
+make-empty-requires c κs = search needs
+
+-- src/main.rt:120:10
+array-share-prefix-list : tie.Need-array-share-prefix-list
+array-share-prefix-list c = search needs
+
+-- src/main.rt:120:10
+slice-aggregate-walk : tie.Need-slice-aggregate-walk
+slice-aggregate-walk c = simp length-take (omega (arith, c .before .before .before .before .if1 .left, c .before .before .before .before .before .before .load-list .kept .0))
+
+-- src/main.rt:120:22
+slice-aggregate-walk-2 : tie.Need-slice-aggregate-walk-2
+slice-aggregate-walk-2 c = search needs
+
+-- src/main.rt:120:5
+walk-requires : tie.Need-walk-requires
+walk-requires c κs = empty-known _ _ _ (c .before .before .before .before .before .before .before .load-list .ensures (c .before .before .before .before .before .if1 .left)) (length-replicate {A = ℕ} 6372 0) (c .before .before .before .make-empty .ensures .1)
+
+-- src/main.rt:111:1
+returns-2 : tie.Need-returns-2
+returns-2 c = search needs
+
+pub main-spec : {M : Type 1} → statement M
+main-spec =
+    tie.close
+    (tie.spec
+    slice-aggregate-load-list
+    load-list-requires
+    slice-aggregate-show
+    show-requires
+    returns
+    slice-aggregate-make-empty
+    make-empty-requires
+    array-share-prefix-list
+    slice-aggregate-walk
+    slice-aggregate-walk-2
+    walk-requires
+    returns-2)
