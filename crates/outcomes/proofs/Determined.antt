@@ -108,6 +108,19 @@ use Rattle.text.proofs.put_party.Reads as text-put-party
 use Rattle.text.proofs.put_cut.Reads as text-put-cut
 use Rattle.accounts.proofs.put_accounts.Reads as accounts-put-accounts
 use Rattle.walking.proofs.walk_part.Reads as walking-walk-part
+use Rattle.gingerstall.proofs.gs_empty.Reads as gs-empty
+use Rattle.gingerstall.proofs.gs_sound.Reads as gs-sound
+use Rattle.gingerstall.proofs.gs_slip_sound.Reads as gs-slip-sound
+use Rattle.gingerstall.proofs.gs_step.Reads as gs-step
+use Rattle.gingerstall.proofs.gs_slip_step.Reads as gs-slip-step
+use Rattle.gingerstall.proofs.gs_run.Reads as gs-run
+use Rattle.gingerstall.proofs.gs_slip_run.Reads as gs-slip-run
+use Rattle.gingerstall.proofs.gs_slip_open.Reads as gs-slip-open
+use Rattle.gingerstall.proofs.gs_book_to_bytes.Reads as gs-book-to-bytes
+use Rattle.gingerstall.proofs.gs_book_from_bytes.Reads as gs-book-from-bytes
+use Rattle.gingerstall.proofs.gs_read.Reads as gs-read
+use Rattle.gingerstall.proofs.gs_read_next.Reads as gs-read-next
+use Rattle.gingerstall.proofs.gs_write.Reads as gs-write
 
 -- L permits a result z and parameters e at exit; of these a caller sees what `seen` takes from them
 abbrev pub Determined : {Z E O : Type 0} → (Z → E → Type 0) → (Z → E → O) → Type 0
@@ -453,3 +466,43 @@ accounts-put-accounts-seen κs a = determined _ _ _ (λ z e p. both (p .0) (p .1
 -- ---- walking
 walking-walk-part-seen : (κs : _) (a : _) → Determined {O = ℕ × (List ℕ × List ℕ)} (walking-walk-part.Learnt κs a) (λ z e. (z, (e .1 .1 .1 .0 .now, e .1 .1 .1 .1 .1 .1 .0 .now)))
 walking-walk-part-seen κs a = determined _ _ _ (λ z e p. both (p .0) (both (p .1) (p .2)))
+
+-- ---- gingerstall
+gs-empty-seen : (κs : _) (a : _) → Determined {O = ℕ × List ℕ} (gs-empty.Learnt κs a) (λ z e. (z, e .0 .now))
+gs-empty-seen κs a = determined _ _ _ (λ z e p. both (p .0) (p .1))
+
+gs-sound-seen : (κs : _) (a : _) → Determined (gs-sound.Learnt κs a) (λ z e. z)
+gs-sound-seen κs a = determined _ _ _ (λ z e p. p)
+
+gs-slip-sound-seen : (κs : _) (a : _) → Determined (gs-slip-sound.Learnt κs a) (λ z e. z)
+gs-slip-sound-seen κs a = determined _ _ _ (λ z e p. p)
+
+gs-step-seen : (κs : _) (a : _) → Determined {O = ℕ × List ℕ} (gs-step.Learnt κs a) (λ z e. (z, e .1 .0 .now))
+gs-step-seen κs a = determined _ _ _ (λ z e p. both (p .0) (p .1))
+
+gs-slip-step-seen : (κs : _) (a : _) → Determined {O = ℕ × List ℕ} (gs-slip-step.Learnt κs a) (λ z e. (z, e .1 .0 .now))
+gs-slip-step-seen κs a = determined _ _ _ (λ z e p. both (p .0) (p .1))
+
+gs-run-seen : (κs : _) (a : _) → Determined {O = ℕ × (List ℕ × List ℕ)} (gs-run.Learnt κs a) (λ z e. (z, (e .1 .0 .now, e .1 .1 .1 .0 .now)))
+gs-run-seen κs a = determined _ _ _ (λ z e p. both (p .0) (both (p .1) (p .2)))
+
+gs-slip-run-seen : (κs : _) (a : _) → Determined {O = ℕ × (List ℕ × List ℕ)} (gs-slip-run.Learnt κs a) (λ z e. (z, (e .1 .0 .now, e .1 .1 .1 .0 .now)))
+gs-slip-run-seen κs a = determined _ _ _ (λ z e p. both (p .0) (both (p .1) (p .2)))
+
+gs-slip-open-seen : (κs : _) (a : _) → Determined {O = ℕ × List ℕ} (gs-slip-open.Learnt κs a) (λ z e. (z, e .1 .1 .0 .now))
+gs-slip-open-seen κs a = determined _ _ _ (λ z e p. both (p .0) (p .1))
+
+gs-book-to-bytes-seen : (κs : _) (a : _) → Determined {O = ℕ × List ℕ} (gs-book-to-bytes.Learnt κs a) (λ z e. (z, e .1 .0 .now))
+gs-book-to-bytes-seen κs a = determined _ _ _ (λ z e p. both (p .0) (p .1))
+
+gs-book-from-bytes-seen : (κs : _) (a : _) → Determined {O = ℕ × List ℕ} (gs-book-from-bytes.Learnt κs a) (λ z e. (z, e .1 .0 .now))
+gs-book-from-bytes-seen κs a = determined _ _ _ (λ z e p. both (p .0) (p .1))
+
+gs-read-seen : (κs : _) (a : _) → Determined {O = ℕ × List ℕ} (gs-read.Learnt κs a) (λ z e. (z, e .1 .1 .0 .now))
+gs-read-seen κs a = determined _ _ _ (λ z e p. both (p .0) (p .1))
+
+gs-read-next-seen : (κs : _) (a : _) → Determined (gs-read-next.Learnt κs a) (λ z e. z)
+gs-read-next-seen κs a = determined _ _ _ (λ z e p. p)
+
+gs-write-seen : (κs : _) (a : _) → Determined {O = ℕ × List ℕ} (gs-write.Learnt κs a) (λ z e. (z, e .1 .1 .1 .1 .1 .0 .now))
+gs-write-seen κs a = determined _ _ _ (λ z e p. both (p .0) (p .1))

@@ -1,0 +1,57 @@
+-- What the functions below say, told of the outer names' arguments.
+use mathlib.Core.Path.{_≡_, refl, ap, _∙_}
+use native.Mathlib.Omega.{arith}
+use lib.ListN.{set}
+use borrow.Author.Tests.{eq-eqb, ne-eqb}
+use Rattle.rules.specs.Lists.{ℕ, Bool, cond, List, [], _∷_, length}
+use Rattle.rules.specs.declared.Hall.{Hall}
+use Rattle.rules.specs.declared.Entry.{Entry}
+use Rattle.rules.specs.Answers.{Answer}
+use Rattle.rules.specs.Tape as paper
+use Rattle.rules.specs.Tape.{readAt}
+use Rattle.tape.specs.Reading.{reading, numberOf, entryIn, onPaper}
+use Rattle.tape.specs.declared.Reading.{Reading}
+use Rattle.tape.proofs.Reader.{nothing-lost}
+use Rattle.gingerstall.specs.Outer.{fieldsOf, readFields}
+
+-- an answer of the record that five arguments make
+pub of-entry : (answer : Entry → Answer) (e e′ : Entry) (n : ℕ) (cells : List ℕ) → e ≡ e′
+    → (n ≡ answer e .number) × (cells ≡ answer e .cells)
+    → (n ≡ answer e′ .number) × (cells ≡ answer e′ .cells)
+of-entry answer e e′ n cells is says = (says .0 ∙ ap (λ (x : Entry). answer x .number) is, says .1 ∙ ap (λ (x : Entry). answer x .cells) is)
+
+-- 0 for yes
+pub of-test : (r : ℕ) (t u : Bool) → r ≡ cond t 0 1 → t ≡ u → r ≡ cond u 0 1
+of-test r t u says is = says ∙ ap (λ (x : Bool). cond x 0 1) is
+
+pub five : (fields : List ℕ) (a b c d e : ℕ) → length fields ≡ 5 → set (set (set (set (set fields 0 a) 1 b) 2 c) 3 d) 4 e ≡ a ∷ b ∷ c ∷ d ∷ e ∷ []
+five (v ∷ w ∷ x ∷ y ∷ z ∷ []) a b c d e l = refl
+five [] a b c d e l = absurd (omega arith)
+five (v ∷ []) a b c d e l = absurd (omega arith)
+five (v ∷ w ∷ []) a b c d e l = absurd (omega arith)
+five (v ∷ w ∷ x ∷ []) a b c d e l = absurd (omega arith)
+five (v ∷ w ∷ x ∷ y ∷ []) a b c d e l = absurd (omega arith)
+five (v ∷ w ∷ x ∷ y ∷ z ∷ u ∷ us) a b c d e l = absurd (omega arith)
+
+-- ---- the reader
+pub no-fields : (h : Hall) (tape : List ℕ) (at : ℕ) (fields : List ℕ) → (length fields ≡ 5 → ⊥)
+    → (16 ≡ readFields h tape at fields .number) × (fields ≡ readFields h tape at fields .cells)
+unfolding readFields
+no-fields h tape at fields n = rw (ne-eqb (length fields) 5 n) (refl, refl)
+
+module _ (h : Hall) (tape : List ℕ) (at : ℕ) (r : Reading) (is : r ≡ reading (readAt h tape at)) where
+  on-paper : onPaper r ≡ readAt h tape at
+  on-paper = ap onPaper is ∙ nothing-lost h tape at
+
+  pub next-place : r .next .at ≡ readAt h tape at .next
+  next-place = ap (λ (x : paper.Reading). x .next) on-paper
+
+  pub read-fields : (fields : List ℕ) → length fields ≡ 5 → (n : ℕ) (e : Entry) (new : List ℕ) → n ≡ numberOf (r .got) → e ≡ entryIn (r .got)
+      → new ≡ fieldsOf e
+      → (n ≡ readFields h tape at fields .number) × (new ≡ readFields h tape at fields .cells)
+  unfolding readFields
+  read-fields fields l n e new number entry laid =
+      rw (eq-eqb (length fields) 5 l) (
+        number ∙ ap (λ (x : paper.Reading). x .number) on-paper,
+        laid ∙ ap fieldsOf (entry ∙ ap (λ (x : paper.Reading). x .entry) on-paper),
+      )

@@ -1,0 +1,23 @@
+use Rattle.rules.specs.Hall.{mainHall}
+use Rattle.rules.specs.Slips.{slip}
+use Rattle.rules.specs.Verdicts.{step}
+use Rattle.gingerstall.proofs.Told.{of-entry}
+use borrow.Author.Needs.{needs}
+use Rattle.gingerstall.proofs.gs_slip_step.Statement.{statement}
+use Rattle.gingerstall.proofs.gs_slip_step.Tie as tie
+
+entry-requires : tie.Need-entry-requires
+entry-requires c κs = search needs
+
+step-requires : tie.Need-step-requires
+step-requires c κs = search needs
+
+same-length : tie.Need-same-length
+same-length c = search needs
+
+returns : tie.Need-returns
+returns c = let s = c .before .before .before .before .before .before .before .args in
+    of-entry (step slip mainHall (s .tokens .now) (s .book .now)) _ _ _ _ (c .before .before .before .entry .ensures) (c .before .before .step .ensures)
+
+pub gs-slip-step-spec : {M : Type 1} → statement M
+gs-slip-step-spec = tie.close (tie.spec entry-requires step-requires same-length returns)

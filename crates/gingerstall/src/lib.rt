@@ -1,0 +1,218 @@
+// The library for C and Rust: the main hall's functions under names of their own, for whatever a caller lends.
+// A slice is a pointer and a count of elements. Each promise is that of the function below it.
+ghost use mathlib.Core.Path.{_≡_};
+ghost use lib.ListN.{length};
+ghost use Rattle.rules.specs.Lists.{cond, []};
+ghost use Rattle.rules.specs.Hall.{mainHall};
+ghost use Rattle.rules.specs.Sound.{sound};
+ghost use Rattle.rules.specs.Bytes.{makeEmpty, writeBook, readBook};
+ghost use Rattle.rules.specs.Tape.{readAt, writeEntry};
+ghost use Rattle.rules.specs.Form.{plain};
+ghost use Rattle.rules.specs.Verdicts.{step, run};
+ghost use Rattle.rules.specs.Slips.{slip, slipSound, openInto};
+ghost use Rattle.tape.specs.Reading.{numberOf, entryIn};
+ghost use Rattle.gingerstall.specs.Outer.{entryFrom, fieldsOf, readFields};
+use lines::Form;
+use rules::Entry;
+use tape::Cursor;
+use tape::Got;
+
+fn entry(kind: u8, bench: u8, customer: u8, zero: u8, amount: u32) -> Entry
+    ensures { λ r. ⌜ r ≡ entryFrom kind bench customer zero amount ⌝ }
+{
+    Entry {
+        kind: kind,
+        bench: bench,
+        customer: customer,
+        byte3: zero,
+        amount: amount,
+    }
+}
+
+// ---- an empty book
+
+#[no_mangle]
+pub extern "C" fn gs_empty(book: &mut [u32]) -> u8
+    ensures { λ r. ⌜ (r ≡ makeEmpty mainHall (now (book .entry)) .number) × (now (book .exit) ≡ makeEmpty mainHall (now (book .entry)) .cells) ⌝ }
+{
+    writer::make_empty(book)
+}
+
+// ---- is it sound? 0 for yes, as a verdict would be
+
+fn unsound(good: bool) -> u8
+    ensures { λ r. ⌜ r ≡ cond good 0 1 ⌝ }
+{
+    if good { 0 } else { 1 }
+}
+
+#[no_mangle]
+pub extern "C" fn gs_sound(tokens: &[u32], book: &[u32]) -> u8
+    ensures { λ r. ⌜ r ≡ cond (sound mainHall (now (tokens .entry)) (now (book .entry))) 0 1 ⌝ }
+{
+    unsound(sound::is_sound(tokens, book))
+}
+
+#[no_mangle]
+pub extern "C" fn gs_slip_sound(tokens: &[u32], book: &[u32]) -> u8
+    ensures { λ r. ⌜ r ≡ cond (slipSound mainHall (now (tokens .entry)) (now (book .entry))) 0 1 ⌝ }
+{
+    unsound(slips::is_sound(tokens, book))
+}
+
+// ---- a step
+
+#[no_mangle]
+pub extern "C" fn gs_step(
+    tokens: &[u32],
+    book: &mut [u32],
+    kind: u8,
+    bench: u8,
+    customer: u8,
+    zero: u8,
+    amount: u32,
+) -> u8
+    ensures { λ r. ⌜ (r ≡ step plain mainHall (now (tokens .entry)) (now (book .entry)) (entryFrom kind bench customer zero amount) .number) × (now (book .exit) ≡ step plain mainHall (now (tokens .entry)) (now (book .entry)) (entryFrom kind bench customer zero amount) .cells) ⌝ }
+{
+    desk::step(
+        Form::Plain,
+        tokens,
+        book,
+        entry(kind, bench, customer, zero, amount),
+    )
+}
+
+#[no_mangle]
+pub extern "C" fn gs_slip_step(
+    tokens: &[u32],
+    book: &mut [u32],
+    kind: u8,
+    bench: u8,
+    customer: u8,
+    zero: u8,
+    amount: u32,
+) -> u8
+    ensures { λ r. ⌜ (r ≡ step slip mainHall (now (tokens .entry)) (now (book .entry)) (entryFrom kind bench customer zero amount) .number) × (now (book .exit) ≡ step slip mainHall (now (tokens .entry)) (now (book .entry)) (entryFrom kind bench customer zero amount) .cells) ⌝ }
+{
+    desk::step(
+        Form::Slip,
+        tokens,
+        book,
+        entry(kind, bench, customer, zero, amount),
+    )
+}
+
+// ---- a run over a whole tape
+
+#[no_mangle]
+pub extern "C" fn gs_run(tokens: &[u32], book: &mut [u32], tape: &[u8], verdicts: &mut [u8]) -> u8
+    ensures { λ r. ⌜ (r ≡ run plain mainHall (now (tokens .entry)) (now (book .entry)) (now (tape .entry)) (now (verdicts .entry)) .answer) × (now (book .exit) ≡ run plain mainHall (now (tokens .entry)) (now (book .entry)) (now (tape .entry)) (now (verdicts .entry)) .book) × (now (verdicts .exit) ≡ run plain mainHall (now (tokens .entry)) (now (book .entry)) (now (tape .entry)) (now (verdicts .entry)) .verdicts) ⌝ }
+{
+    desk::run(Form::Plain, tokens, book, tape, verdicts)
+}
+
+#[no_mangle]
+pub extern "C" fn gs_slip_run(
+    tokens: &[u32],
+    book: &mut [u32],
+    tape: &[u8],
+    verdicts: &mut [u8],
+) -> u8
+    ensures { λ r. ⌜ (r ≡ run slip mainHall (now (tokens .entry)) (now (book .entry)) (now (tape .entry)) (now (verdicts .entry)) .answer) × (now (book .exit) ≡ run slip mainHall (now (tokens .entry)) (now (book .entry)) (now (tape .entry)) (now (verdicts .entry)) .book) × (now (verdicts .exit) ≡ run slip mainHall (now (tokens .entry)) (now (book .entry)) (now (tape .entry)) (now (verdicts .entry)) .verdicts) ⌝ }
+{
+    desk::run(Form::Slip, tokens, book, tape, verdicts)
+}
+
+#[no_mangle]
+pub extern "C" fn gs_slip_open(tokens: &[u32], slips: &[u32], plain: &mut [u32]) -> u8
+    ensures { λ r. ⌜ (r ≡ openInto mainHall (now (tokens .entry)) (now (slips .entry)) (now (plain .entry)) .number) × (now (plain .exit) ≡ openInto mainHall (now (tokens .entry)) (now (slips .entry)) (now (plain .entry)) .cells) ⌝ }
+{
+    slips::open_into(tokens, slips, plain)
+}
+
+// ---- a book on file
+
+#[no_mangle]
+pub extern "C" fn gs_book_to_bytes(book: &[u32], bytes: &mut [u8]) -> u8
+    ensures { λ r. ⌜ (r ≡ writeBook mainHall (now (book .entry)) (now (bytes .entry)) .number) × (now (bytes .exit) ≡ writeBook mainHall (now (book .entry)) (now (bytes .entry)) .cells) ⌝ }
+{
+    filing::write_book(book, bytes)
+}
+
+#[no_mangle]
+pub extern "C" fn gs_book_from_bytes(bytes: &[u8], book: &mut [u32]) -> u8
+    ensures { λ r. ⌜ (r ≡ readBook mainHall (now (bytes .entry)) (now (book .entry)) .number) × (now (book .exit) ≡ readBook mainHall (now (bytes .entry)) (now (book .entry)) .cells) ⌝ }
+{
+    filing::read_book(bytes, book)
+}
+
+// ---- the tape, record by record
+
+fn number_of(got: Got) -> u8
+    ensures { λ r. ⌜ r ≡ numberOf got ⌝ }
+{
+    match got {
+        Got::Good(_) => 0,
+        Got::Bad(number, _) => number,
+        Got::Cut => 16,
+    }
+}
+
+fn entry_in(got: Got) -> Entry
+    ensures { λ r. ⌜ r ≡ entryIn got ⌝ }
+{
+    match got {
+        Got::Good(e) => e,
+        Got::Bad(_, e) => e,
+        Got::Cut => entry(0, 0, 0, 0, 0),
+    }
+}
+
+fn put_fields(fields: &mut [u32], e: Entry)
+    requires { ⌜ length (now fields) ≡ 5 ⌝ }
+    ensures { λ _. ⌜ now (fields .exit) ≡ fieldsOf e ⌝ }
+{
+    fields[0] = e.kind as u32;
+    fields[1] = e.bench as u32;
+    fields[2] = e.customer as u32;
+    fields[3] = e.byte3 as u32;
+    fields[4] = e.amount;
+}
+
+// The record at a place, its five fields laid into the lent ones, also where it is refused.
+#[no_mangle]
+pub extern "C" fn gs_read(tape: &[u8], at: usize, fields: &mut [u32]) -> u8
+    ensures { λ r. ⌜ (r ≡ readFields mainHall (now (tape .entry)) at (now (fields .entry)) .number) × (now (fields .exit) ≡ readFields mainHall (now (tape .entry)) at (now (fields .entry)) .cells) ⌝ }
+{
+    if fields.len() != 5 {
+        return 16;
+    }
+    let cursor = Cursor { at: at };
+    let reading = cursor.read(book::MAIN, tape);
+    let got = reading.got;
+    put_fields(fields, entry_in(got));
+    number_of(got)
+}
+
+#[no_mangle]
+pub extern "C" fn gs_read_next(tape: &[u8], at: usize) -> usize
+    ensures { λ r. ⌜ r ≡ readAt mainHall (now (tape .entry)) at .next ⌝ }
+{
+    let cursor = Cursor { at: at };
+    let reading = cursor.read(book::MAIN, tape);
+    reading.next.at
+}
+
+#[no_mangle]
+pub extern "C" fn gs_write(
+    kind: u8,
+    bench: u8,
+    customer: u8,
+    zero: u8,
+    amount: u32,
+    part: &mut [u8],
+) -> u8
+    ensures { λ r. ⌜ (r ≡ writeEntry mainHall (entryFrom kind bench customer zero amount) (now (part .entry)) .number) × (now (part .exit) ≡ writeEntry mainHall (entryFrom kind bench customer zero amount) (now (part .entry)) .cells) ⌝ }
+{
+    tape::write(book::MAIN, entry(kind, bench, customer, zero, amount), part)
+}

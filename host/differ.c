@@ -1,0 +1,392 @@
+/* Holds the proved library against the ledger written by hand, from a seed.
+
+       differ [SEED [CASES]]       without a seed: one from the clock, which is printed
+
+   Each case draws a list, a book of either form, a tape and lengths; every call is made to both, and verdicts, answers
+   and all lent cells are compared. It ends with status 1 at the first difference, or if a number that can be answered
+   never was: a test that idles must not pass. */
+#include <stdio.h>
+#include <stdlib.h>
+#include <string.h>
+#include <time.h>
+
+#include "draw.h"
+#include "hold.h"
+
+enum { USUAL_CASES = 2000 };
+
+static const struct counts RIGHT = {0, BOOK_WORDS, BOOK_WORDS, 0, 0, BOOK_BYTES, 5, 8};
+
+/* ---- how often each number was answered ---- */
+
+enum { NUMBERS = 17 };
+enum tally { PLAIN_STEPS, SLIP_STEPS, PLAIN_SOUND, SLIP_SOUND, OPENED, READER, WRITER, TALLIES };
+
+static const struct {
+    const char *name;
+    uint32_t can; /* a bit for each number that can be answered */
+} ANSWERS[TALLIES] = {
+    {"plain book", 0x1ffff}, {"slip book", 0x1ffff}, {"plain sound", 3}, {"slip sound", 3},
+    {"slips opened", 3},     {"reader", 0x1000d},    {"writer", 0x1000d},
+};
+static const enum tally STEPS[] = {PLAIN_STEPS, SLIP_STEPS}, SOUND[] = {PLAIN_SOUND, SLIP_SOUND};
+static size_t tallies[TALLIES][NUMBERS];
+
+static uint8_t tell(enum tally tally, uint8_t answer)
+{
+    if (answer >= NUMBERS || !(ANSWERS[tally].can >> answer & 1))
+        differs(ANSWERS[tally].name, "a number that can't be answered", NO_PLACE, answer, answer);
+    tallies[tally][answer]++;
+    return answer;
+}
+
+/* Prints each number with how often it came up; answers whether one never did. */
+static int print_tallies(void)
+{
+    int idle = 0;
+    for (int tally = 0; tally < TALLIES; tally++) {
+        printf("%-12s", ANSWERS[tally].name);
+        for (int number = 0; number < NUMBERS; number++) {
+            if (!(ANSWERS[tally].can >> number & 1))
+                continue;
+            printf("  %d: %zu", number, tallies[tally][number]);
+            idle |= tallies[tally][number] == 0;
+        }
+        printf("\n");
+    }
+    return idle;
+}
+
+/* ---- what a case lends ---- */
+
+/* Whatever stands in lent cells beforehand doesn't matter, so it is drawn too. */
+static void lay_junk(void)
+{
+    uint32_t *words = (uint32_t *)&LENT[HAND];
+    for (size_t i = 0; i < sizeof LENT[HAND] / sizeof words[0]; i++)
+        words[i] = chance(50) ? 0 : draw_word();
+}
+
+static size_t draw_listed(void)
+{
+    size_t edges[] = {0, 1, MOST_LISTED, MOST_LISTED + 1};
+    if (chance(1))
+        return edges[draw(4)];
+    return draw(chance(30) ? 150 : chance(80) ? 500 : 1000);
+}
+
+static void repeat_token(struct counts c)
+{
+    if (c.tokens >= 2)
+        LENT[HAND].tokens[draw(c.tokens)] = LENT[HAND].tokens[draw(c.tokens)];
+}
+
+/* Draws the tape; answers the counts with its own. Once a list is dealt out most steps are refused, so a tape is mostly
+   short where the list is. */
+static struct counts lay_tape(struct counts c, int joining)
+{
+    c.verdicts = draw(chance(20) ? 4 : chance(15) ? MOST_RECORDS + 1 : 20 + (c.tokens < 500 ? c.tokens / 2 : 250));
+    c.tape = 8 * c.verdicts;
+    draw_tape(LENT[HAND].tape, c.verdicts, joining);
+    return c;
+}
+
+/* The hand-written ledger grows the books that are lent. */
+static void grow(enum form form, struct counts c)
+{
+    struct lent *b = &LENT[HAND];
+    size_t records = draw(chance(10) ? 5 : 150);
+    LEDGERS[HAND].empty(b->book, BOOK_WORDS);
+    draw_tape(b->tape, records, 1);
+    LEDGERS[HAND].run[form](b->tokens, c.tokens, b->book, BOOK_WORDS, b->tape, 8 * records, b->verdicts, records);
+    share();
+}
+
+static void lend_book(const uint32_t *kept)
+{
+    memcpy(LENT[HAND].book, kept, sizeof LENT[HAND].book);
+    share();
+}
+
+/* Makes a sound book one that may never have grown: a change is kept where the book stays sound. */
+static void bend(enum form form, struct counts c)
+{
+    static uint32_t kept[BOOK_ROOM];
+    for (size_t changes = draw(40); changes > 0; changes--) {
+        memcpy(kept, LENT[HAND].book, sizeof kept);
+        bend_book(form, LENT[HAND].tokens, c.tokens, LENT[HAND].book);
+        share();
+        if (tell(SOUND[form], both_sound(form, c)) != 0)
+            lend_book(kept);
+    }
+}
+
+/* A word or a few changed, again and again from the same book; the last changes stay. */
+static void spoil(enum form form, struct counts c)
+{
+    static uint32_t kept[BOOK_ROOM];
+    memcpy(kept, LENT[HAND].book, sizeof kept);
+    for (size_t tries = 1 + draw(20); tries > 0; tries--) {
+        lend_book(kept);
+        for (size_t changes = 1 + draw(chance(80) ? 1 : 4); changes > 0; changes--)
+            spoil_book(LENT[HAND].tokens, c.tokens, LENT[HAND].book);
+        share();
+        tell(SOUND[form], both_sound(form, c));
+    }
+}
+
+/* ---- runs and steps ---- */
+
+static uint8_t tell_run(enum form form, struct counts c)
+{
+    uint8_t answer = tell(STEPS[form], both_run(form, c));
+    for (size_t i = 0; answer == 0 && i < c.verdicts; i++)
+        tell(STEPS[form], LENT[HAND].verdicts[i]);
+    return answer;
+}
+
+static struct entry entry_read(void)
+{
+    const uint32_t *fields = LENT[HAND].fields;
+    return (struct entry){(uint8_t)fields[0], (uint8_t)fields[1], (uint8_t)fields[2], (uint8_t)fields[3], fields[4]};
+}
+
+/* The tape through the reader, step by step; then a run from the same start has to say and leave the same. */
+static uint8_t try_steps(enum form form, struct counts c)
+{
+    static struct lent start, stepped;
+    start = LENT[HAND];
+    for (size_t i = 0, at = 0; i < c.verdicts; i++, at = both_read_next(c, at)) {
+        STANDING.step = (long)i;
+        tell(READER, both_read(c, at));
+        stepped.verdicts[i] = tell(STEPS[form], both_step(form, c, entry_read()));
+    }
+    STANDING.step = -1;
+    memcpy(stepped.book, LENT[HAND].book, sizeof stepped.book);
+    LENT[HAND] = LENT[PROVED] = start;
+    uint8_t answer = tell_run(form, c);
+    for (size_t i = 0; i < c.verdicts; i++)
+        if (stepped.verdicts[i] != (answer ? answer : LENT[HAND].verdicts[i]))
+            disagrees("step against run", "verdict", i, stepped.verdicts[i], LENT[HAND].verdicts[i]);
+    for (size_t i = 0; i < BOOK_WORDS; i++)
+        if (stepped.book[i] != LENT[HAND].book[i])
+            disagrees("step against run", "book", i, stepped.book[i], LENT[HAND].book[i]);
+    return answer;
+}
+
+static uint8_t try_tape(enum form form, struct counts c)
+{
+    STANDING.form = form;
+    return c.tokens <= 1000 && chance(20) ? try_steps(form, c) : tell_run(form, c);
+}
+
+/* One tape in both forms from empty: the verdicts are the same, and the slip book opens to the plain one. */
+static void try_from_empty(struct counts c)
+{
+    static struct lent plain;
+    c = lay_tape(c, chance(98));
+    share();
+    both_empty(c);
+    uint8_t answer = try_tape(PLAIN, c);
+    plain = LENT[HAND];
+    both_empty(c);
+    uint8_t slip_answer = try_tape(SLIP, c);
+    if (slip_answer != answer)
+        disagrees("plain against slip", "answer", NO_PLACE, answer, slip_answer);
+    if (answer != 0)
+        return;
+    for (size_t i = 0; i < c.verdicts; i++)
+        if (plain.verdicts[i] != LENT[HAND].verdicts[i])
+            disagrees("plain against slip", "verdict", i, plain.verdicts[i], LENT[HAND].verdicts[i]);
+    tell(OPENED, both_open(c));
+    for (size_t i = 0; i < BOOK_WORDS; i++)
+        if (plain.book[i] != LENT[HAND].opened[i])
+            disagrees("plain against slip", "book", i, plain.book[i], LENT[HAND].opened[i]);
+}
+
+/* A loaded book: is it sound in either form, what does it open to, and what does a tape do to it. */
+static void try_loaded(struct counts c, int spoilt)
+{
+    enum form form = STANDING.form = (enum form)draw(2);
+    grow(form, c);
+    if (!spoilt || chance(50))
+        bend(form, c);
+    if (spoilt)
+        spoil(form, c);
+    c = lay_tape(c, chance(40));
+    share();
+    tell(PLAIN_SOUND, both_sound(PLAIN, c));
+    tell(SLIP_SOUND, both_sound(SLIP, c));
+    tell(OPENED, both_open(c));
+    try_tape(form, c);
+    tell(SOUND[form], both_sound(form, c));
+}
+
+/* ---- lengths, bytes, reader and writer ---- */
+
+static size_t draw_count(size_t right, size_t room)
+{
+    size_t wrong[] = {0, 1, right == 0 ? 0 : right - 1, right + 1, draw(room + 1)};
+    return chance(75) ? right : wrong[draw(5)];
+}
+
+static struct counts draw_counts(struct counts c)
+{
+    return (struct counts){
+        draw_count(c.tokens, 600),         draw_count(c.book, BOOK_ROOM),   draw_count(c.opened, BOOK_ROOM),
+        draw_count(c.tape, TAPE_ROOM),     draw_count(c.verdicts, TAPE_ROOM), draw_count(c.bytes, BYTES_ROOM),
+        draw_count(c.fields, SMALL_ROOM),  draw_count(c.part, SMALL_ROOM),
+    };
+}
+
+static void try_counts(struct counts c)
+{
+    enum form form = STANDING.form = (enum form)draw(2);
+    grow(form, c);
+    c = lay_tape(c, 0);
+    share();
+    for (int tries = 0; tries < 6; tries++) {
+        tell(SOUND[form], both_sound(form, draw_counts(c)));
+        tell(OPENED, both_open(draw_counts(c)));
+        tell_run(form, draw_counts(c));
+        tell(STEPS[form], both_step(form, draw_counts(c), draw_entry()));
+        both_to_bytes(draw_counts(c));
+        tell(READER, both_read(draw_counts(c), draw(c.tape + 9)));
+        tell(WRITER, both_write(draw_counts(c), draw_entry()));
+    }
+    for (int tries = 0; tries < 6; tries++) {
+        both_empty(draw_counts(c));
+        both_from_bytes(draw_counts(c));
+    }
+}
+
+/* There and back, from words and from bytes; a book needn't be sound. */
+static void try_bytes(struct counts c)
+{
+    static struct lent start;
+    share();
+    start = LENT[HAND];
+    both_to_bytes(c);
+    both_from_bytes(c);
+    if (memcmp(start.book, LENT[HAND].book, sizeof start.book) != 0)
+        disagrees("to bytes and back", "the book", NO_PLACE, 0, 0);
+    LENT[HAND] = LENT[PROVED] = start;
+    both_from_bytes(c);
+    both_to_bytes(c);
+    if (memcmp(start.bytes, LENT[HAND].bytes, sizeof start.bytes) != 0)
+        disagrees("from bytes and back", "the bytes", NO_PLACE, 0, 0);
+}
+
+static void try_reader(struct counts c)
+{
+    size_t records = draw(20);
+    draw_tape(LENT[HAND].tape, records, 0);
+    share();
+    c.tape = 8 * records + draw(8);
+    for (int tries = 0; tries < 10; tries++) {
+        size_t far = (size_t)draw_word() << draw(33);
+        size_t places[] = {draw(c.tape + 20), 8 * draw(records + 2), SIZE_MAX - draw(20), far}, at = places[draw(4)];
+        tell(READER, both_read(c, at));
+        both_read_next(c, at);
+    }
+}
+
+/* What was written is read back the same. */
+static void try_writer(struct counts c)
+{
+    struct entry entry = draw_entry();
+    share();
+    if (tell(WRITER, both_write(c, entry)) != 0)
+        return;
+    memcpy(LENT[HAND].tape, LENT[HAND].part, 8);
+    share();
+    c.tape = 8;
+    struct entry back = (tell(READER, both_read(c, 0)), entry_read());
+    if (memcmp(&entry, &back, sizeof entry) != 0)
+        disagrees("written and read", "an entry of this kind", NO_PLACE, entry.kind, back.kind);
+}
+
+/* ---- the twelve steps of document 01 ---- */
+
+static const struct entry TWELVE[12] = {{1, 0, 3, 0, 9}, {2, 1, 0, 0, 0}, {3, 1, 3, 0, 0}, {4, 0, 3, 0, 5},
+                                        {6, 1, 3, 0, 2}, {5, 1, 0, 0, 2}, {6, 1, 3, 0, 4}, {9, 1, 3, 0, 0},
+                                        {4, 0, 3, 0, 0}, {4, 0, 3, 0, 5}, {4, 0, 3, 0, 1}, {7, 1, 0, 0, 0}};
+static const uint8_t TWELVE_VERDICTS[12] = {0, 0, 0, 0, 0, 0, 11, 0, 0, 8, 10, 0};
+
+/* Words of the book afterwards: customer 3 has a budget of 4 and 3 tokens, bench 1 a balance of 2 and 1 token in its
+   till, and nothing waits. */
+static const size_t TWELVE_WORDS[][2] = {{36 * 20 + 1, 4}, {36 * 20 + 2, 3}, {36 * 4 + 2, 3},
+                                         {36 * 34 + 1, 2}, {36 * 42 + 2, 1}, {36 * 68 + 2, 0}};
+
+static void try_twelve(enum form form)
+{
+    struct counts c = RIGHT;
+    c.tokens = c.verdicts = 12;
+    c.tape = 96;
+    for (uint32_t i = 0; i < 12; i++) {
+        LENT[HAND].tokens[i] = 21 + i;
+        put_entry(LENT[HAND].tape + 8 * i, TWELVE[i]);
+    }
+    share();
+    both_empty(c);
+    try_steps(form, c);
+    for (size_t i = 0; i < 12; i++)
+        if (LENT[PROVED].verdicts[i] != TWELVE_VERDICTS[i])
+            differs("twelve steps", "verdict", i, TWELVE_VERDICTS[i], LENT[PROVED].verdicts[i]);
+    for (size_t i = 0; i < sizeof TWELVE_WORDS / sizeof TWELVE_WORDS[0]; i++) {
+        size_t place = TWELVE_WORDS[i][0], expected = TWELVE_WORDS[i][1];
+        if (LENT[PROVED].book[place] != expected)
+            differs("twelve steps", "book", place, expected, LENT[PROVED].book[place]);
+    }
+}
+
+/* ---- all of it ---- */
+
+static void try_case(void)
+{
+    struct counts c = RIGHT;
+    lay_junk();
+    draw_parties();
+    c.tokens = draw_listed();
+    draw_list(LENT[HAND].tokens, LIST_ROOM);
+    try_bytes(c);
+    try_reader(c);
+    try_writer(c);
+    if (chance(3))
+        repeat_token(c);
+    size_t about = draw(100);
+    if (about < 45)
+        try_from_empty(c);
+    else if (about < 90)
+        try_loaded(c, about < 65);
+    else
+        try_counts(c);
+}
+
+static uint64_t clock_seed(void)
+{
+    struct timespec now;
+    clock_gettime(CLOCK_REALTIME, &now);
+    return (uint64_t)now.tv_sec * 1000000000 + (uint64_t)now.tv_nsec;
+}
+
+int main(int words, char **word)
+{
+    uint64_t seed = words > 1 ? strtoull(word[1], NULL, 10) : clock_seed();
+    size_t cases = words > 2 ? strtoull(word[2], NULL, 10) : USUAL_CASES;
+    STANDING.seed = seed;
+    STANDING.step = -1;
+    printf("seed %llu, %zu cases\n", (unsigned long long)seed, cases);
+    for (int form = PLAIN; form <= SLIP; form++) {
+        STANDING.form = (enum form)form;
+        try_twelve((enum form)form);
+    }
+    for (STANDING.number = 1; STANDING.number <= cases; STANDING.number++) {
+        draw_from(seed ^ (uint64_t)STANDING.number << 40);
+        STANDING.step = -1;
+        try_case();
+    }
+    int idle = print_tallies();
+    printf(idle ? "no difference, but some number never came up\n" : "no difference\n");
+    return idle;
+}

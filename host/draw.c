@@ -1,0 +1,496 @@
+#include "draw.h"
+
+enum { CARNETS = 1, CUSTOMER_VIEWS = 17, BENCH_VIEWS = 33, TILLS = 41, LINES = 49, RECORDS = 177 };
+enum { IN_USE, AMOUNT, COUNT, SALES, CELL };
+
+/* ---- numbers ---- */
+
+static uint64_t state;
+
+void draw_from(uint64_t seed)
+{
+    state = seed;
+}
+
+/* Steele, Lea and Flood's splitmix64: every seed is as good as another. */
+static uint64_t draw_bits(void)
+{
+    uint64_t z = state += 0x9e3779b97f4a7c15;
+    z = (z ^ z >> 30) * 0xbf58476d1ce4e5b9;
+    z = (z ^ z >> 27) * 0x94d049bb133111eb;
+    return z ^ z >> 31;
+}
+
+size_t draw(size_t below)
+{
+    return draw_bits() % below;
+}
+
+int chance(size_t percent)
+{
+    return draw(100) < percent;
+}
+
+uint32_t draw_word(void)
+{
+    return (uint32_t)draw_bits();
+}
+
+/* ---- lists ---- */
+
+/* An odd factor and a sum turn different numbers into different ones; with 1 and 0 the tokens are 0, 1, 2 .., which look
+   like counts and flags. */
+void draw_list(uint32_t *tokens, size_t n)
+{
+    uint32_t factor = chance(50) ? 1 : draw_word() | 1, sum = chance(50) ? 0 : draw_word();
+    for (size_t i = 0; i < n; i++)
+        tokens[i] = (uint32_t)i * factor + sum;
+}
+
+/* ---- tapes ---- */
+
+void put_entry(uint8_t *part, struct entry entry)
+{
+    part[0] = entry.kind;
+    part[1] = entry.bench;
+    part[2] = entry.customer;
+    part[3] = entry.zero;
+    for (int i = 0; i < 4; i++)
+        part[4 + i] = (uint8_t)(entry.amount >> 8 * i);
+}
+
+static struct {
+    size_t benches, customers;
+    uint8_t first_bench, first_customer;
+} parties;
+
+/* The last numbers of the hall are where a loop might end too early, so they are drawn more often than others. */
+void draw_parties(void)
+{
+    parties.benches = chance(10) ? 8 : 1 + draw(3);
+    parties.customers = chance(10) ? 16 : 1 + draw(4);
+    size_t last_bench = 8 - parties.benches, last_customer = 16 - parties.customers;
+    parties.first_bench = (uint8_t)(chance(30) ? last_bench : draw(last_bench + 1));
+    parties.first_customer = (uint8_t)(chance(30) ? last_customer : draw(last_customer + 1));
+}
+
+static uint8_t any_bench(void)
+{
+    return (uint8_t)(parties.first_bench + draw(parties.benches));
+}
+
+static uint8_t any_customer(void)
+{
+    return (uint8_t)(parties.first_customer + draw(parties.customers));
+}
+
+/* A tape being drawn; what is added to a full one is dropped. */
+struct drawing {
+    uint8_t *tape;
+    size_t records, filled;
+};
+
+static void add_entry(struct drawing *d, struct entry entry)
+{
+    if (d->filled < d->records)
+        put_entry(d->tape + 8 * d->filled++, entry);
+}
+
+static void add(struct drawing *d, size_t kind, uint8_t bench, uint8_t customer, size_t amount)
+{
+    add_entry(d, (struct entry){(uint8_t)kind, bench, customer, 0, (uint32_t)amount});
+}
+
+static size_t draw_budget(void)
+{
+    size_t limits[] = {999999, 1000000, 1000001, 4294967295};
+    return chance(4) ? limits[draw(4)] : chance(20) ? draw(20) : draw(2000);
+}
+
+/* Nearly everybody joins, and most lines are opened. */
+static void add_joins(struct drawing *d)
+{
+    for (uint8_t c = parties.first_customer; c < parties.first_customer + parties.customers; c++)
+        if (chance(98))
+            add(d, 1, 0, c, draw_budget());
+    for (uint8_t m = parties.first_bench; m < parties.first_bench + parties.benches; m++) {
+        if (chance(98))
+            add(d, 2, m, 0, 0);
+        for (uint8_t c = parties.first_customer; c < parties.first_customer + parties.customers; c++)
+            if (chance(97))
+                add(d, 3, m, c, 0);
+    }
+}
+
+/* Somebody joins or a line is opened, mostly for the second time. */
+static void add_join(struct drawing *d)
+{
+    size_t kind = 1 + draw(3);
+    add(d, kind, kind == 1 ? 0 : any_bench(), kind == 2 ? 0 : any_customer(), kind == 1 ? draw_budget() : 0);
+}
+
+/* A customer takes tokens and buys at some benches, which mostly clear before the next update kills what they hold. */
+static void add_visit(struct drawing *d)
+{
+    uint8_t customer = any_customer(), benches[4];
+    size_t sales = draw(4), most = chance(90) ? 3 : 12;
+    if (chance(90))
+        add(d, 4, 0, customer, draw(chance(95) ? 6 : 34));
+    for (size_t i = 0; i < sales; i++) {
+        benches[i] = any_bench();
+        add(d, 6, benches[i], customer, draw(most));
+    }
+    for (size_t i = 0; i < sales; i++)
+        if (chance(95))
+            add(d, 9, benches[i], customer, 0);
+}
+
+static void add_authentications(struct drawing *d)
+{
+    uint8_t bench = any_bench();
+    size_t count = draw(4);
+    if (chance(60))
+        add(d, 5, bench, 0, draw(chance(90) ? 10 : 35));
+    for (size_t i = 0; i < count; i++)
+        add(d, 7 + draw(2), bench, 0, 0);
+}
+
+/* Many small sales to one line, to fill it. */
+static void add_small_sales(struct drawing *d)
+{
+    uint8_t bench = any_bench(), customer = any_customer();
+    size_t count = 10 + draw(12);
+    add(d, 4, 0, customer, draw(33));
+    for (size_t i = 0; i < count; i++)
+        add(d, 6, bench, customer, 1 + draw(chance(80) ? 1 : 3));
+}
+
+static uint32_t draw_amount(void)
+{
+    switch (draw(4)) {
+    case 0:
+        return 0;
+    case 1:
+        return (uint32_t)draw(36);
+    case 2:
+        return (uint32_t)draw_budget();
+    default:
+        return draw_word();
+    }
+}
+
+static const uint8_t USES_BENCH[] = {0, 0, 1, 1, 0, 1, 1, 1, 1, 1};
+static const uint8_t USES_CUSTOMER[] = {0, 1, 0, 1, 1, 0, 1, 0, 0, 1};
+static const uint8_t USES_AMOUNT[] = {0, 1, 0, 0, 1, 1, 1, 0, 0, 0};
+
+/* A well-formed entry of any parties, with numbers just past the hall's among them; then perhaps one field changed. */
+struct entry draw_entry(void)
+{
+    uint8_t kind = (uint8_t)(1 + draw(9));
+    struct entry entry = {kind, USES_BENCH[kind] ? (uint8_t)draw(9) : 0, USES_CUSTOMER[kind] ? (uint8_t)draw(17) : 0, 0,
+                          USES_AMOUNT[kind] ? draw_amount() : 0};
+    switch (draw(12)) {
+    case 0:
+        entry.kind = (uint8_t)(chance(50) ? draw(12) : draw(256));
+        break;
+    case 1:
+        entry.bench = (uint8_t)(chance(50) ? draw(10) : draw(256));
+        break;
+    case 2:
+        entry.customer = (uint8_t)(chance(50) ? draw(18) : draw(256));
+        break;
+    case 3:
+        entry.zero = (uint8_t)(1 << draw(8));
+        break;
+    case 4:
+        entry.amount = (uint32_t)1 << draw(32);
+        break;
+    }
+    return entry;
+}
+
+static struct entry draw_garbage(void)
+{
+    uint32_t word = draw_word();
+    return (struct entry){(uint8_t)word, (uint8_t)(word >> 8), (uint8_t)(word >> 16), (uint8_t)(word >> 24), draw_word()};
+}
+
+void draw_tape(uint8_t *tape, size_t records, int joining)
+{
+    struct drawing d = {tape, records, 0};
+    if (joining)
+        add_joins(&d);
+    while (d.filled < records) {
+        size_t scene = draw(100);
+        if (scene < 55)
+            add_visit(&d);
+        else if (scene < 80)
+            add_authentications(&d);
+        else if (scene < 82)
+            add_small_sales(&d);
+        else if (scene < 90)
+            add(&d, 9, any_bench(), any_customer(), 0);
+        else if (scene < 92)
+            add_join(&d);
+        else
+            add_entry(&d, chance(70) ? draw_entry() : draw_garbage());
+    }
+}
+
+/* ---- books ---- */
+
+static uint32_t *record_of(uint32_t *book, size_t record)
+{
+    return book + RECORD_WORDS * record;
+}
+
+static uint32_t any_token(const uint32_t *tokens, size_t n)
+{
+    return n == 0 ? 0 : tokens[draw(n)];
+}
+
+/* A number in a hall where few parties have joined is mostly nobody's, so some are tried for a record in use. */
+static size_t any_in_use(const uint32_t *book, size_t first, size_t count)
+{
+    size_t record = first + draw(count);
+    for (int tries = 0; tries < 20 && book[RECORD_WORDS * record] == 0; tries++)
+        record = first + draw(count);
+    return record;
+}
+
+static size_t any_line(const uint32_t *book)
+{
+    return any_in_use(book, LINES, 128);
+}
+
+/* Any record but the desk's, each sort as often as another. */
+static size_t any_record(const uint32_t *book)
+{
+    switch (draw(5)) {
+    case 0:
+        return any_in_use(book, CARNETS, 16);
+    case 1:
+        return any_in_use(book, CUSTOMER_VIEWS, 16);
+    case 2:
+        return any_in_use(book, BENCH_VIEWS, 8);
+    case 3:
+        return any_in_use(book, TILLS, 8);
+    default:
+        return any_line(book);
+    }
+}
+
+/* The money up to its bound or one past it, by one view's amount; or amounts that would wrap round. */
+static void bend_money(uint32_t *book)
+{
+    uint32_t *amount = &record_of(book, any_in_use(book, CUSTOMER_VIEWS, 24))[AMOUNT];
+    uint64_t money = 0, joined = 0;
+    for (size_t view = CUSTOMER_VIEWS; view < TILLS; view++)
+        money += record_of(book, view)[AMOUNT];
+    for (size_t view = CUSTOMER_VIEWS; view < BENCH_VIEWS; view++) {
+        money += record_of(book, view)[COUNT];
+        joined += record_of(book, view)[IN_USE];
+    }
+    if (chance(80)) {
+        *amount += (uint32_t)(1000000 * joined - money + draw(2));
+    } else if (chance(50)) {
+        *amount -= (uint32_t)(money + draw(2));
+    } else {
+        *amount ^= 0x80000000;
+        record_of(book, any_in_use(book, CUSTOMER_VIEWS, 24))[AMOUNT] ^= 0x80000000;
+    }
+}
+
+/* A token that one record holds, behind what another holds, or the same. */
+static void bend_twice(uint32_t *book)
+{
+    const uint32_t *from = record_of(book, any_record(book));
+    uint32_t *to = record_of(book, any_record(book));
+    if (from[COUNT] == 0 || from[COUNT] > 32 || to[COUNT] >= 32)
+        return;
+    to[CELL + to[COUNT]] = from[CELL + draw(from[COUNT])];
+    to[COUNT] += 1;
+}
+
+/* One token, or in a line of a slip book one slip, behind what a record holds. */
+static void bend_more(enum form form, const uint32_t *tokens, size_t n, uint32_t *book)
+{
+    size_t place = any_record(book);
+    uint32_t *record = record_of(book, place), count = 1;
+    if (place >= LINES && form == SLIP && record[SALES] < 16) {
+        count += (uint32_t)draw(4);
+        record[CELL + 2 * record[SALES]] = any_token(tokens, n);
+        record[CELL + 2 * record[SALES] + 1] = count;
+        record[SALES] += 1;
+    } else if (record[COUNT] < 32) {
+        record[CELL + record[COUNT]] = any_token(tokens, n);
+        if (place >= LINES && record[SALES] == 0)
+            record[SALES] = 1;
+    }
+    record[COUNT] += count;
+}
+
+/* The first or the last token goes, or in a line of a slip book the oldest slip. */
+static void bend_less(enum form form, uint32_t *book)
+{
+    size_t place = any_record(book);
+    uint32_t *record = record_of(book, place);
+    if (record[COUNT] == 0)
+        return;
+    if (place >= LINES && form == SLIP) {
+        uint32_t *slip = record + CELL + 2 * (record[SALES] - 1);
+        record[COUNT] -= slip[1];
+        record[SALES] -= 1;
+        slip[0] = slip[1] = 0;
+        return;
+    }
+    record[COUNT] -= 1;
+    size_t from = chance(50) ? 0 : record[COUNT];
+    for (size_t i = from; i < record[COUNT]; i++)
+        record[CELL + i] = record[CELL + i + 1];
+    record[CELL + record[COUNT]] = 0;
+    if (record[SALES] > record[COUNT])
+        record[SALES] = record[COUNT];
+}
+
+/* Other first tokens in a till and the desk's view of it. */
+static void bend_till(const uint32_t *tokens, size_t n, uint32_t *book)
+{
+    size_t till = any_in_use(book, TILLS, 8);
+    uint32_t *records[] = {record_of(book, till), record_of(book, till - TILLS + BENCH_VIEWS)};
+    for (int i = 0; i < 2; i++) {
+        records[i][CELL] = any_token(tokens, n);
+        if (records[i][COUNT] == 0)
+            records[i][COUNT] = 1;
+    }
+}
+
+/* Up to 32 tokens of the list, from any place on, in a record: a carnet mostly, and in a plain book a line too. */
+static void bend_run(enum form form, const uint32_t *tokens, size_t n, uint32_t *book)
+{
+    size_t others = form == PLAIN && chance(50) ? any_line(book) : any_in_use(book, CUSTOMER_VIEWS, 32);
+    size_t place = chance(50) ? any_in_use(book, CARNETS, 16) : others;
+    uint32_t *record = record_of(book, place);
+    size_t from = n == 0 ? 0 : draw(n), count = draw(33);
+    if (from + count > n)
+        count = n - from;
+    for (size_t i = 0; i < 32; i++)
+        record[CELL + i] = i < count ? tokens[from + i] : 0;
+    record[COUNT] = (uint32_t)count;
+    record[SALES] = place < LINES ? 0 : (uint32_t)draw(18);
+}
+
+/* A count that takes in the cell behind, which holds a zero, or leaves out the last: where 0 is a token, that may be
+   sound. */
+static void bend_count(uint32_t *book)
+{
+    record_of(book, any_record(book))[COUNT] += chance(70) ? 1 : (uint32_t)-1;
+}
+
+static void bend_order(uint32_t *book)
+{
+    uint32_t *record = record_of(book, any_record(book));
+    if (record[COUNT] < 2 || record[COUNT] > 32)
+        return;
+    uint32_t *left = record + CELL + draw(record[COUNT]), *right = record + CELL + draw(record[COUNT]), kept = *left;
+    *left = *right;
+    *right = kept;
+}
+
+/* A slip more or less long, with the line's count. */
+static void bend_slip(uint32_t *book)
+{
+    uint32_t *line = record_of(book, any_line(book));
+    if (line[SALES] == 0 || line[SALES] > 16)
+        return;
+    uint32_t change = chance(50) ? 1 : (uint32_t)-1;
+    line[CELL + 2 * draw(line[SALES]) + 1] += change;
+    line[COUNT] += change;
+}
+
+/* Both records of a party in use or not, or one of them, or a line's. */
+static void bend_use(uint32_t *book)
+{
+    uint32_t used = (uint32_t)draw(chance(80) ? 2 : 3);
+    size_t left = CARNETS + draw(16), right = left + 16;
+    if (chance(30)) {
+        left = BENCH_VIEWS + draw(8);
+        right = left + 8;
+    } else if (chance(50)) {
+        left = right = LINES + draw(128);
+    }
+    record_of(book, left)[IN_USE] = used;
+    if (chance(80))
+        record_of(book, right)[IN_USE] = used;
+}
+
+static void bend_by_list(enum form form, const uint32_t *tokens, size_t n, uint32_t *book)
+{
+    switch (draw(4)) {
+    case 0:
+        book[AMOUNT] = (uint32_t)(chance(50) ? n : draw(n + 2));
+        break;
+    case 1:
+        bend_more(form, tokens, n, book);
+        break;
+    case 2:
+        bend_run(form, tokens, n, book);
+        break;
+    default:
+        bend_till(tokens, n, book);
+    }
+}
+
+static void bend_by_itself(enum form form, uint32_t *book)
+{
+    switch (draw(8)) {
+    case 0:
+        bend_money(book);
+        break;
+    case 1:
+        bend_less(form, book);
+        break;
+    case 2:
+        bend_order(book);
+        break;
+    case 3:
+        bend_slip(book);
+        break;
+    case 4:
+        bend_use(book);
+        break;
+    case 5:
+        bend_twice(book);
+        break;
+    case 6:
+        bend_count(book);
+        break;
+    default:
+        record_of(book, any_line(book))[SALES] = (uint32_t)draw(18);
+    }
+}
+
+void bend_book(enum form form, const uint32_t *tokens, size_t n, uint32_t *book)
+{
+    if (chance(35))
+        bend_by_list(form, tokens, n, book);
+    else
+        bend_by_itself(form, book);
+}
+
+void spoil_book(const uint32_t *tokens, size_t n, uint32_t *book)
+{
+    uint32_t values[] = {0, 1, 2, 16, 17, 31, 32, 33, 1000000, 4294967295, any_token(tokens, n), draw_word()};
+    size_t records[] = {0, draw(RECORDS), any_record(book), any_record(book)}, words[] = {draw(6), draw(6), draw(36), 35};
+    uint32_t *word = record_of(book, records[draw(4)]) + words[draw(4)];
+    switch (draw(3)) {
+    case 0:
+        *word += chance(50) ? 1 : (uint32_t)-1;
+        break;
+    case 1:
+        *word ^= (uint32_t)1 << draw(32);
+        break;
+    default:
+        *word = values[draw(sizeof values / sizeof values[0])];
+    }
+}

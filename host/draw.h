@@ -1,0 +1,36 @@
+/* Lists, tapes and books drawn at random from a seed. */
+#ifndef DRAW_H
+#define DRAW_H
+
+#include "both.h"
+
+/* Begins again from a seed; what is drawn afterwards depends on it alone. */
+void draw_from(uint64_t seed);
+
+/* A number below another, which isn't 0; true so many times in a hundred; any word. */
+size_t draw(size_t below);
+int chance(size_t percent);
+uint32_t draw_word(void);
+
+/* n different tokens. */
+void draw_list(uint32_t *tokens, size_t n);
+
+/* Who takes part in the tapes from now on. Few parties meet often. */
+void draw_parties(void);
+
+/* A tape of so many records, which begins with their joining or not. Most are granted where they have joined and there
+   are tokens enough. */
+void draw_tape(uint8_t *tape, size_t records, int joining);
+
+/* Any entry: mostly one that is well formed, or nearly. */
+struct entry draw_entry(void);
+
+/* Changes one thing in a book so that it often stays sound, though no step might have done it. */
+void bend_book(enum form form, const uint32_t *tokens, size_t n, uint32_t *book);
+
+/* Changes one word. */
+void spoil_book(const uint32_t *tokens, size_t n, uint32_t *book);
+
+void put_entry(uint8_t *part, struct entry entry);
+
+#endif

@@ -1,0 +1,34 @@
+/* A ledger by the rules of document 01, written by hand. Each function does what its namesake in include/gingerstall.h is
+   said to do. */
+#ifndef LEDGER_H
+#define LEDGER_H
+
+#include <stddef.h>
+#include <stdint.h>
+
+uint8_t hand_empty(uint32_t *book, size_t words);
+
+uint8_t hand_sound(const uint32_t *tokens, size_t n, const uint32_t *book, size_t words);
+uint8_t hand_slip_sound(const uint32_t *tokens, size_t n, const uint32_t *book, size_t words);
+
+uint8_t hand_step(const uint32_t *tokens, size_t n, uint32_t *book, size_t words, uint8_t kind, uint8_t bench,
+                  uint8_t customer, uint8_t zero, uint32_t amount);
+uint8_t hand_slip_step(const uint32_t *tokens, size_t n, uint32_t *book, size_t words, uint8_t kind, uint8_t bench,
+                       uint8_t customer, uint8_t zero, uint32_t amount);
+
+uint8_t hand_run(const uint32_t *tokens, size_t n, uint32_t *book, size_t words, const uint8_t *tape, size_t bytes,
+                 uint8_t *verdicts, size_t count);
+uint8_t hand_slip_run(const uint32_t *tokens, size_t n, uint32_t *book, size_t words, const uint8_t *tape, size_t bytes,
+                      uint8_t *verdicts, size_t count);
+
+uint8_t hand_slip_open(const uint32_t *tokens, size_t n, const uint32_t *slips, size_t words, uint32_t *plain,
+                       size_t plain_words);
+
+uint8_t hand_book_to_bytes(const uint32_t *book, size_t words, uint8_t *bytes, size_t n);
+uint8_t hand_book_from_bytes(const uint8_t *bytes, size_t n, uint32_t *book, size_t words);
+
+uint8_t hand_read(const uint8_t *tape, size_t bytes, size_t at, uint32_t *fields, size_t count);
+size_t hand_read_next(const uint8_t *tape, size_t bytes, size_t at);
+uint8_t hand_write(uint8_t kind, uint8_t bench, uint8_t customer, uint8_t zero, uint32_t amount, uint8_t *part, size_t n);
+
+#endif

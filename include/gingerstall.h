@@ -1,0 +1,73 @@
+/* The clearing book of a print-finishing hall, as a library: target/staticlib/libgingerstall.a, written by
+   `rt staticlib gingerstall`. docs/RULES.md tells the rules, and what each number below stands for.
+
+   A book is 6,372 words of 32 bits; on file it is 25,488 bytes, each word's lowest byte first. An empty book is one of
+   either form, plain or slip. A token list is 0 to 4,096 words, all different. A tape is records of 8 bytes.
+
+   What is lent comes as a pointer and the count of its elements. A caller owes pointers that are valid for these counts:
+   not null, even where a count is 0, and none to be written that overlaps another. Nothing else is asked: any words,
+   bytes and counts are taken. An answer other than 0 leaves all that was lent as it was, but for gs_read's fields. */
+#ifndef GINGERSTALL_H
+#define GINGERSTALL_H
+
+#include <stddef.h>
+#include <stdint.h>
+
+#ifdef __cplusplus
+extern "C" {
+#endif
+
+/* Makes the book empty and answers 0; with other than 6,372 words answers 1. */
+uint8_t gs_empty(uint32_t *book, size_t words);
+
+/* 0 if this is a sound plain book over a good list, else 1. Writes nothing. */
+uint8_t gs_sound(const uint32_t *tokens, size_t n, const uint32_t *book, size_t words);
+
+/* The same of a slip book. */
+uint8_t gs_slip_sound(const uint32_t *tokens, size_t n, const uint32_t *book, size_t words);
+
+/* Does one step in a plain book, told by the five fields of its record. Answers its verdict, 0 to 15: 0 if it was
+   granted and the book has changed accordingly, 1 if the book isn't sound over the list. */
+uint8_t gs_step(const uint32_t *tokens, size_t n, uint32_t *book, size_t words, uint8_t kind, uint8_t bench,
+                uint8_t customer, uint8_t zero, uint32_t amount);
+
+/* The same in a slip book. */
+uint8_t gs_slip_step(const uint32_t *tokens, size_t n, uint32_t *book, size_t words, uint8_t kind, uint8_t bench,
+                     uint8_t customer, uint8_t zero, uint32_t amount);
+
+/* Does the steps of a tape in a plain book. Answers 1 if the book isn't sound over the list, 16 if the tape isn't 8
+   bytes for each of the count verdicts. Otherwise 0: each granted step is done, and verdicts[i] is what record i got. */
+uint8_t gs_run(const uint32_t *tokens, size_t n, uint32_t *book, size_t words, const uint8_t *tape, size_t bytes,
+               uint8_t *verdicts, size_t count);
+
+/* The same in a slip book. */
+uint8_t gs_slip_run(const uint32_t *tokens, size_t n, uint32_t *book, size_t words, const uint8_t *tape, size_t bytes,
+                    uint8_t *verdicts, size_t count);
+
+/* Opens a slip book into a plain one, whatever that held, and answers 0. Answers 1 if the slip book isn't sound over the
+   list or the plain one hasn't 6,372 words. */
+uint8_t gs_slip_open(const uint32_t *tokens, size_t n, const uint32_t *slips, size_t words, uint32_t *plain,
+                     size_t plain_words);
+
+/* The book of either form as bytes, n of them. Answers 1 if a length is wrong, else 0. Soundness isn't asked. */
+uint8_t gs_book_to_bytes(const uint32_t *book, size_t words, uint8_t *bytes, size_t n);
+
+/* The way back. Answers 1 if a length is wrong, else 0. Soundness isn't asked: the first step on the book does that. */
+uint8_t gs_book_from_bytes(const uint8_t *bytes, size_t n, uint32_t *book, size_t words);
+
+/* Reads the record at a place of the tape, which may be any number. The fields become kind, bench, customer, byte 3 and
+   amount. Answers 0, or 2 or 3 where a step in a sound book would. With fewer than 8 bytes from that place on it answers
+   16 and the fields become 0. If count isn't 5 it answers 16 and writes nothing. */
+uint8_t gs_read(const uint8_t *tape, size_t bytes, size_t at, uint32_t *fields, size_t count);
+
+/* Where the reader stands after that: 8 further, or still there if fewer than 8 bytes are left. */
+size_t gs_read_next(const uint8_t *tape, size_t bytes, size_t at);
+
+/* Writes a record to a part of a tape. Answers 2 or 3 where reading it would, then 16 if n isn't 8, else 0. */
+uint8_t gs_write(uint8_t kind, uint8_t bench, uint8_t customer, uint8_t zero, uint32_t amount, uint8_t *part, size_t n);
+
+#ifdef __cplusplus
+}
+#endif
+
+#endif
