@@ -42,13 +42,13 @@ module _ (h : Hall) (b : List ℕ) (at : ℕ) (out : List ℕ) (who used : ℕ) 
     unfolding benchLine inUse
     bench-absent n = absent at out 77 _ _ (λ e. n (is ∙ e))
 
-    pub bench-present : used ≡ 1 → (owed cleared waiting end : ℕ) (out′ : List ℕ)
+    pub bench-present : used ≡ 1 → (owed stocked waiting end : ℕ) (out′ : List ℕ)
         → owed ≡ getD (recordAt (number h (BenchView who)) b) 1 0
-        → cleared ≡ getD (recordAt (number h (Till who)) b) 2 0
+        → stocked ≡ getD (recordAt (number h (Till who)) b) 2 0
         → waiting ≡ sumIn b 2 (range (1 + 2 * h .customers + 2 * h .benches + h .customers * who) (h .customers))
-        → Wrote at (77 ∷ spaced (who ∷ owed ∷ cleared ∷ waiting ∷ [])) out end out′
+        → Wrote at (77 ∷ spaced (who ∷ owed ∷ stocked ∷ waiting ∷ [])) out end out′
         → Wrote at (benchLine h (λ k. recordAt k b) who) out end out′
     unfolding benchLine inUse amount count
-    bench-present e owed cleared waiting end out′ p q r w =
+    bench-present e owed stocked waiting end out′ p q r w =
         let first : 1 + 2 * h .customers + 2 * h .benches + h .customers * who ≡ number h (Line who 0) = omega arith in
         present at out 77 _ _ (sym is ∙ e) end out′ (rw (p, q, r, first) at w)

@@ -41,7 +41,7 @@ fn put_bench(out: &mut [u8], at: usize, h: Hall, book: &[u32], m: usize) -> usiz
         return at;
     }
     let owed = book::word_of(book, view, 1);
-    let cleared = book::word_of(book, 1 + 2 * h.customers + h.benches + m, 2);
+    let stocked = book::word_of(book, 1 + 2 * h.customers + h.benches + m, 2);
     let lines = 1 + 2 * h.customers + 2 * h.benches + h.customers * m;
     let waiting = groups::sum_of(book, 2, lines, h.customers);
     text::put_party(
@@ -50,7 +50,7 @@ fn put_bench(out: &mut [u8], at: usize, h: Hall, book: &[u32], m: usize) -> usiz
         b'M',
         m as u64,
         owed as u64,
-        cleared as u64,
+        stocked as u64,
         waiting,
     )
 }

@@ -4,7 +4,7 @@ use Prim.Native.Nat.{_≤_, _<_}
 use native.Mathlib.Omega.{arith}
 use lib.Seq.{take-all}
 use borrow.Author.Tests.{eq-eqb, ne-eqb, le-leb, lt-leb}
-use Rattle.rules.specs.Lists.{ℕ, _*_, _/_, _%_, true, false, _&&_, leb, eqb, List, _++_, length, take, drop}
+use Rattle.rules.specs.Lists.{ℕ, _/_, _%_, true, false, _&&_, leb, eqb, List, _++_, length, drop}
 use Rattle.rules.specs.Hall.{mostTokens}
 use Rattle.rules.specs.Answers.{first, answer}
 use Rattle.rules.specs.Sound.{goodList}

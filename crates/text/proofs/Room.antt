@@ -1,10 +1,9 @@
 -- How long a line can be.
-use mathlib.Core.Path.{_≡_, ap, _∙_}
 use Prim.Native.Nat.{_≤_}
 use native.Mathlib.Omega.{arith}
 use lib.ListN.{length-append}
-use Rattle.rules.specs.Lists.{ℕ, _+_, _*_, _%_, Bool, true, false, cond, eqb, List, [], _∷_, _++_, length}
-use Rattle.rules.specs.Text.{decimal, spaced}
+use Rattle.rules.specs.Lists.{ℕ, _+_, _*_, _%_, Bool, true, false, cond, eqb, List, [], _∷_, length}
+use Rattle.rules.specs.Text.{spaced}
 use Rattle.rules.specs.Listing.{stepLine, cutLine, partyLine}
 use Rattle.text.proofs.Digits.{digits-few}
 

@@ -1,12 +1,10 @@
--- What the program goes by: a list that was read is good, an empty book is known to be sound, and a part keeps it so.
+-- What the program goes by: a list that was read is good, and a book that was made empty is known to be sound; such a book has the hall's length.
 use mathlib.Core.Path.{_≡_, refl, sym, ap, _∙_}
-use Prim.Native.Nat.{_≤_}
 use native.Mathlib.Omega.{arith}
 use lib.Seq.{take-at}
-use Rattle.rules.specs.Lists.{ℕ, _/_, Bool, true, false, not, _&&_, leb, List, [], _∷_, _++_, length, take, drop}
-use Rattle.rules.specs.declared.Hall.{Hall}
+use Rattle.rules.specs.Lists.{ℕ, _/_, Bool, true, false, _&&_, leb, List, _++_, length, take, drop}
 use Rattle.rules.specs.Hall.{mainHall}
-use Rattle.rules.specs.Answers.{_⇐_, first, answer}
+use Rattle.rules.specs.Answers.{first, answer}
 use Rattle.rules.specs.Form.{plain}
 use Rattle.rules.specs.Sound.{goodList, fits, sound, emptyBook}
 use Rattle.rules.specs.Bytes.{makeEmpty}

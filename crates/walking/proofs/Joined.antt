@@ -6,13 +6,13 @@ use lib.ListN.{length-append}
 use borrow.Author.Tests.{eq-eqb}
 use Rattle.rules.specs.declared.Hall.{Hall}
 use Rattle.rules.specs.declared.Entry.{Entry}
-use Rattle.rules.specs.Lists.{ℕ, zero, suc, _+_, _*_, _/_, _%_, List, [], _∷_, _++_, length}
+use Rattle.rules.specs.Lists.{ℕ, zero, suc, _+_, _/_, _%_, List, [], _∷_, _++_, length}
 use Rattle.rules.specs.Tape.{entries}
 use Rattle.rules.specs.Form.{Form}
 use Rattle.rules.specs.Listing.{stepLine, stepLines, cutLine}
 use Rattle.rules.specs.Verdicts.{step, Ran, steps}
 use Rattle.rules.specs.Walk.{recordLines, partRan, partLines}
-use Rattle.rules.proofs.Running.{then, steps-joined, entries-joined}
+use Rattle.rules.proofs.Running.{steps-joined, entries-joined}
 use Rattle.keeps.proofs.Keeps.{Kept}
 use Rattle.desk.specs.Known.{Known}
 

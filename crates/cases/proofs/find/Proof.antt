@@ -1,6 +1,5 @@
 -- Every place passed lies in the text.
 use Prim.Native.Nat.{_≤_, _-_}
-use native.Mathlib.Omega.{arith}
 use lib.ListN.{length}
 use borrow.Author.Needs.{needs}
 use Rattle.cases.proofs.find.Statement.{statement}

@@ -1,7 +1,5 @@
 -- All but the last digit by a call of itself, with one digit fewer to write; the measure is how many are left.
-use native.Mathlib.Omega.{arith}
-use Rattle.text.proofs.Writing.{written-length}
-use Rattle.text.proofs.Digits.{digits-few, wrote-none, wrote-last, wrote-more}
+use Rattle.text.proofs.Digits.{wrote-none, wrote-last, wrote-more}
 use borrow.Author.Needs.{needs}
 use Prim.Native.Nat.{ℕ, _<_}
 use borrow.Fn.Kinds.{In, Out}

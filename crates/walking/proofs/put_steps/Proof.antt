@@ -1,7 +1,6 @@
 use mathlib.Core.Path.{refl}
 -- The invariant is the whole text: what is written, and then the lines that are left.
 use Prim.Native.Nat.{_-_}
-use native.Mathlib.Omega.{arith}
 use lib.ListN.{length}
 use Rattle.walking.proofs.Lines.{Lines, starts, one-more, ends}
 use borrow.Author.Needs.{needs}
