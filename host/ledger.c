@@ -1,5 +1,5 @@
 /* The ledger of document 01 in the plainest C, for the proved library to be held against: easy to check against the
-   rules, and sharing nothing with the library. It takes every input, so nothing is used as a count or a place before it
+   rules, and sharing no code with the library. It takes every input, so nothing is used as a count or a place before it
    is known to be one. Verdict numbers stand in the code as they stand in the document's table. */
 #include "ledger.h"
 
