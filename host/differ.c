@@ -1,6 +1,6 @@
 /* Holds the proved library against the ledger written by hand, from a seed.
 
-       differ [SEED [CASES]]       without a seed: one from the clock, which is printed
+       differ SEED CASES
 
    Each case draws a list, a book of either form, a tape and lengths; every call is made to both, and verdicts, answers
    and all lent cells are compared. It ends with status 1 at the first difference, or if a number that can be answered
@@ -8,12 +8,9 @@
 #include <stdio.h>
 #include <stdlib.h>
 #include <string.h>
-#include <time.h>
 
 #include "draw.h"
 #include "hold.h"
-
-enum { USUAL_CASES = 2000 };
 
 static const struct counts RIGHT = {0, BOOK_WORDS, BOOK_WORDS, 0, 0, BOOK_BYTES, 5, 8};
 
@@ -340,6 +337,86 @@ static void try_twelve(enum form form)
     }
 }
 
+/* ---- every number, whatever the seed ---- */
+
+/* The steps of two customers, of one who never joins and of a bench over 40 tokens, and what they get: the numbers that a
+   book grown from empty answers. Who they are is drawn. */
+enum { FIRST = 100, SECOND, NOBODY, BENCH };
+static const struct {
+    struct entry entry;
+    uint8_t times, verdict;
+} TOUR[] = {
+    {{1, 0, FIRST, 0, 50}, 1, 0},  {{1, 0, FIRST, 0, 50}, 1, 4},     {{2, BENCH, 0, 0, 0}, 1, 0},
+    {{1, 0, SECOND, 0, 9}, 1, 0},  {{4, 0, NOBODY, 0, 1}, 1, 5},     {{6, BENCH, FIRST, 0, 0}, 1, 6},
+    {{3, BENCH, FIRST, 0, 0}, 1, 0}, {{3, BENCH, SECOND, 0, 0}, 1, 0}, {{1, 0, NOBODY, 0, 1000001}, 1, 7},
+    {{4, 0, FIRST, 0, 51}, 1, 8},  {{4, 0, FIRST, 0, 33}, 1, 9},     {{4, 0, FIRST, 0, 17}, 1, 0},
+    {{4, 0, FIRST, 0, 15}, 1, 10}, {{6, BENCH, FIRST, 0, 18}, 1, 11}, {{6, BENCH, FIRST, 0, 1}, 16, 0},
+    {{6, BENCH, FIRST, 0, 1}, 1, 12}, {{7, BENCH, 0, 0, 0}, 1, 13},  {{9, BENCH, FIRST, 0, 0}, 1, 0},
+    {{4, 0, SECOND, 0, 2}, 1, 0},  {{6, BENCH, SECOND, 0, 1}, 1, 0}, {{4, 0, SECOND, 0, 0}, 1, 0},
+    {{9, BENCH, SECOND, 0, 0}, 1, 15}, {{5, BENCH, 0, 0, 2}, 1, 0},  {{10, 0, 0, 0, 0}, 1, 2},
+    {{2, 8, 0, 0, 0}, 1, 3},
+};
+
+static struct entry named(struct entry e, uint8_t bench, uint8_t customer)
+{
+    if (e.bench == BENCH)
+        e.bench = bench;
+    if (e.customer >= FIRST)
+        e.customer = (uint8_t)((customer + e.customer - FIRST) % 16);
+    return e;
+}
+
+/* Writes the tour to the tape; answers how many records it has. */
+static size_t lay_tour(uint8_t bench, uint8_t customer, uint8_t *verdicts)
+{
+    size_t count = 0;
+    for (size_t i = 0; i < sizeof TOUR / sizeof TOUR[0]; i++)
+        for (size_t times = 0; times < TOUR[i].times; times++, count++) {
+            put_entry(LENT[HAND].tape + 8 * count, named(TOUR[i].entry, bench, customer));
+            verdicts[count] = TOUR[i].verdict;
+        }
+    return count;
+}
+
+/* Every number that can be answered is, and is the one that document 01 says: those of the tour, then 14 where the tokens
+   of a till are exchanged, 16 for a tape that is cut, and 1 where the desk isn't in use. */
+static void try_numbers(enum form form)
+{
+    struct counts c = RIGHT;
+    uint8_t bench = (uint8_t)draw(8), expected[MOST_RECORDS];
+    c.tokens = 40;
+    draw_list(LENT[HAND].tokens, c.tokens);
+    c.verdicts = lay_tour(bench, (uint8_t)draw(16), expected);
+    c.tape = 8 * c.verdicts;
+    share();
+    both_empty(c);
+    try_steps(form, c);
+    for (size_t i = 0; i < c.verdicts; i++)
+        if (LENT[PROVED].verdicts[i] != expected[i])
+            differs("every number", "verdict", i, expected[i], LENT[PROVED].verdicts[i]);
+    uint32_t *till = LENT[HAND].book + RECORD_WORDS * (41 + bench) + 4, first = till[0];
+    till[0] = till[1];
+    till[1] = first;
+    share();
+    const struct entry authenticates = {7, bench, 0, 0, 0};
+    tell(SOUND[form], both_sound(form, c));
+    if (tell(STEPS[form], both_step(form, c, authenticates)) != 14)
+        differs("every number", "a token that differs", NO_PLACE, 14, 0);
+    tell(OPENED, both_open(c));
+    tell(READER, both_read(c, c.tape));
+    tell(WRITER, both_write(c, authenticates));
+    tell(WRITER, both_write(c, (struct entry){10, 0, 0, 0, 0}));
+    tell(WRITER, both_write(c, (struct entry){7, 8, 0, 0, 0}));
+    c.part = c.tape = 7;
+    tell(WRITER, both_write(c, authenticates));
+    tell(STEPS[form], both_run(form, c));
+    LENT[HAND].book[0] = 0;
+    share();
+    tell(STEPS[form], both_run(form, c));
+    tell(SOUND[form], both_sound(form, c));
+    tell(OPENED, both_open(c));
+}
+
 /* ---- all of it ---- */
 
 static void try_case(void)
@@ -363,23 +440,37 @@ static void try_case(void)
         try_counts(c);
 }
 
-static uint64_t clock_seed(void)
+/* A number of 64 bits in digits alone. */
+static uint64_t number_of(const char *text, const char *what)
 {
-    struct timespec now;
-    clock_gettime(CLOCK_REALTIME, &now);
-    return (uint64_t)now.tv_sec * 1000000000 + (uint64_t)now.tv_nsec;
+    uint64_t number = 0;
+    for (const char *at = text; *at != 0 || at == text; at++) {
+        uint64_t digit = (uint64_t)*at - '0';
+        if (digit > 9 || number > (UINT64_MAX - digit) / 10) {
+            printf("differ: \"%s\" is no %s\n", text, what);
+            exit(2);
+        }
+        number = 10 * number + digit;
+    }
+    return number;
 }
 
 int main(int words, char **word)
 {
-    uint64_t seed = words > 1 ? strtoull(word[1], NULL, 10) : clock_seed();
-    size_t cases = words > 2 ? strtoull(word[2], NULL, 10) : USUAL_CASES;
+    if (words != 3) {
+        printf("differ SEED CASES\n");
+        return 2;
+    }
+    uint64_t seed = number_of(word[1], "seed");
+    size_t cases = number_of(word[2], "number of cases");
     STANDING.seed = seed;
     STANDING.step = -1;
     printf("seed %llu, %zu cases\n", (unsigned long long)seed, cases);
+    draw_from(seed);
     for (int form = PLAIN; form <= SLIP; form++) {
         STANDING.form = (enum form)form;
         try_twelve((enum form)form);
+        try_numbers((enum form)form);
     }
     for (STANDING.number = 1; STANDING.number <= cases; STANDING.number++) {
         draw_from(seed ^ (uint64_t)STANDING.number << 40);

@@ -122,6 +122,14 @@ static void add_joins(struct drawing *d)
     }
 }
 
+/* Every line is cleared as a loaded book has it, before an update kills its tokens. */
+static void add_clears(struct drawing *d)
+{
+    for (uint8_t m = parties.first_bench; m < parties.first_bench + parties.benches; m++)
+        for (uint8_t c = parties.first_customer; c < parties.first_customer + parties.customers; c++)
+            add(d, 9, m, c, 0);
+}
+
 /* Somebody joins or a line is opened, mostly for the second time. */
 static void add_join(struct drawing *d)
 {
@@ -220,6 +228,8 @@ void draw_tape(uint8_t *tape, size_t records, int joining)
     struct drawing d = {tape, records, 0};
     if (joining)
         add_joins(&d);
+    else if (chance(50))
+        add_clears(&d);
     while (d.filled < records) {
         size_t scene = draw(100);
         if (scene < 55)
@@ -353,6 +363,33 @@ static void bend_less(enum form form, uint32_t *book)
         record[SALES] = record[COUNT];
 }
 
+/* One token of a line is dead: it goes from the desk's view of the customer. In a slip book that may be any token of a
+   slip, so that the slip is dead in part. */
+static void bend_dead(enum form form, const uint32_t *tokens, size_t n, uint32_t *book)
+{
+    size_t place = any_line(book), at = 0;
+    const uint32_t *line = record_of(book, place);
+    uint32_t *view = record_of(book, CUSTOMER_VIEWS + (place - LINES) % 16);
+    if (line[COUNT] == 0 || line[COUNT] > 32 || line[SALES] == 0 || line[SALES] > 16 || view[COUNT] > 32)
+        return;
+    uint32_t dead = line[CELL + draw(line[COUNT])];
+    if (form == SLIP) {
+        const uint32_t *slip = line + CELL + 2 * draw(line[SALES]);
+        while (at < n && tokens[at] != slip[0])
+            at++;
+        if (slip[1] == 0 || at + slip[1] > n)
+            return;
+        dead = tokens[at + draw(slip[1])];
+    }
+    uint32_t kept = 0;
+    for (size_t i = 0; i < view[COUNT]; i++)
+        if (view[CELL + i] != dead)
+            view[CELL + kept++] = view[CELL + i];
+    for (size_t i = kept; i < view[COUNT]; i++)
+        view[CELL + i] = 0;
+    view[COUNT] = kept;
+}
+
 /* Other first tokens in a till and the desk's view of it. */
 static void bend_till(const uint32_t *tokens, size_t n, uint32_t *book)
 {
@@ -426,7 +463,7 @@ static void bend_use(uint32_t *book)
 
 static void bend_by_list(enum form form, const uint32_t *tokens, size_t n, uint32_t *book)
 {
-    switch (draw(4)) {
+    switch (draw(5)) {
     case 0:
         book[AMOUNT] = (uint32_t)(chance(50) ? n : draw(n + 2));
         break;
@@ -435,6 +472,9 @@ static void bend_by_list(enum form form, const uint32_t *tokens, size_t n, uint3
         break;
     case 2:
         bend_run(form, tokens, n, book);
+        break;
+    case 3:
+        bend_dead(form, tokens, n, book);
         break;
     default:
         bend_till(tokens, n, book);

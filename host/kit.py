@@ -1,5 +1,5 @@
 """What host/test and host/bench share: the proved library, and C by the kit's compiler and linker."""
-import os, pathlib, subprocess, sys
+import hashlib, os, pathlib, subprocess, sys
 
 ROOT = pathlib.Path(__file__).resolve().parent.parent
 sys.path.insert(0, str(ROOT / "tests"))
@@ -7,34 +7,54 @@ import shared
 
 HOST = ROOT / "host"
 ARCHIVE = ROOT / "target/staticlib/libgingerstall.a"
+MADE_OF = ARCHIVE.with_suffix(".made-of")
 ON = shared.walk.kit() / "on" / os.uname().machine
 TOOLCHAIN = ON / "toolchain"
 TARGET = "x86_64-unknown-linux-gnu"
 
 
+class Failed(Exception):
+    """What a compiler or linker said when it failed."""
+
+
+def content():
+    """What the library is made of, and the library itself, as one line."""
+    files = [path for path in ROOT.glob("crates/*/*/**/*") if path.suffix in (".rt", ".antt")]
+    whole = hashlib.sha256()
+    for path in [shared.walk.kit() / "KIT-ID", ROOT / "crates.txt", *sorted(files), ARCHIVE]:
+        whole.update(f"{path}\n".encode() + hashlib.sha256(path.read_bytes()).digest())
+    return whole.hexdigest()
+
+
 def prove():
-    """Builds the library if it isn't there, or is older than a file that it may be built from."""
-    files = [ROOT / "crates.txt", *(path for path in ROOT.glob("crates/*/*/**/*") if path.suffix in (".rt", ".antt"))]
-    if ARCHIVE.exists() and ARCHIVE.stat().st_mtime >= max(path.stat().st_mtime for path in files):
+    """Builds the library, unless it is there and made of just these files."""
+    if ARCHIVE.exists() and MADE_OF.exists() and MADE_OF.read_text() == content():
         return
     rt = subprocess.run(["rt", "staticlib", "gingerstall"], cwd=ROOT, stdout=subprocess.PIPE, text=True)
     if rt.returncode != 0:
         sys.exit(f"{rt.stdout}host: the library isn't built")
+    MADE_OF.write_text(content())
 
 
-def compiled(room, name, *flags):
+def said(command):
+    """Runs what only speaks where it fails."""
+    done = subprocess.run(command, stdout=subprocess.PIPE, stderr=subprocess.STDOUT, text=True)
+    if done.returncode != 0:
+        raise Failed(f"{pathlib.Path(command[0]).name} failed and said:\n{done.stdout}")
+
+
+def compiled(room, source):
     """The object file of a C file. The kit has no C headers, so that those of this machine are kept out too."""
-    made = room / f"{name}{''.join(flags)}.o"
+    made = room / f"{source.stem}.o"
     clang = [TOOLCHAIN / "bin/clang", f"--target={TARGET}", "-O3", "-fPIC", "-std=c11", "-Wall", "-Wextra", "-Werror"]
-    headers = ["-nostdinc", "-isystem", HOST / "headers", "-I", ROOT / "include"]
-    subprocess.run([*clang, *headers, *flags, "-c", HOST / f"{name}.c", "-o", made], check=True)
+    headers = ["-nostdinc", "-isystem", HOST / "headers", "-I", ROOT / "include", "-I", HOST]
+    said([*clang, *headers, "-c", source, "-o", made])
     return made
 
 
 def linked(made, *objects):
     """The program of some object files and the library."""
-    link = [ON / "bin/rattle-link", "--target", TARGET, "--toolchain", TOOLCHAIN, "-o", made, *objects, ARCHIVE]
-    subprocess.run(link, check=True, stderr=subprocess.DEVNULL)
+    said([ON / "bin/rattle-link", "--target", TARGET, "--toolchain", TOOLCHAIN, "-o", made, *objects, ARCHIVE])
     return made
 
 

@@ -16,13 +16,6 @@ enum { JOIN_CUSTOMER = 1, JOIN_BENCH, OPEN, UPDATE, STOCK, SELL, BENCH_AUTHENTIC
 
 enum form { PLAIN, SLIP };
 
-/* A fault for host/test to put in: an update up to 33 tokens. */
-#ifdef HAND_FAULT
-enum { MOST_HELD = 33 };
-#else
-enum { MOST_HELD = 32 };
-#endif
-
 /* Where a record begins. */
 static size_t at(size_t record)
 {
@@ -351,7 +344,7 @@ static uint8_t judge_step(const struct desk *d, uint8_t kind, uint64_t n)
         return 7;
     if (kind == UPDATE && n > d->customer_view[AMOUNT])
         return 8;
-    if (kind == UPDATE && held + n > MOST_HELD)
+    if (kind == UPDATE && held + n > 32)
         return 9;
     if (kind == UPDATE && held + n > left)
         return 10;

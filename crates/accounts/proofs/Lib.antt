@@ -2,3 +2,4 @@
 pub mod Line
 pub mod Joined
 pub mod All
+pub mod Determined

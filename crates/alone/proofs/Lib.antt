@@ -1,3 +1,4 @@
 pub mod Parted
 pub mod Alone
 pub mod Begun
+pub mod Determined

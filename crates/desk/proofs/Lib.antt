@@ -1,2 +1,3 @@
 pub mod Refused
 pub mod Kind
+pub mod Determined

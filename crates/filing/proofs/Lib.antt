@@ -1,2 +1,3 @@
 pub mod Filing
 pub mod Lists
+pub mod Determined

@@ -2,3 +2,4 @@ pub mod Table
 pub mod Found
 pub mod Answered
 pub mod Passed
+pub mod Determined

@@ -1,2 +1,3 @@
 pub mod Written
 pub mod Scratch
+pub mod Determined

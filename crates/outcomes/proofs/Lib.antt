@@ -1,3 +1,2 @@
--- What the promises of the public functions come to: each determines its outcome, and two of them together meet demand 3.
-pub mod Determined
+-- What the promises of the public functions come to: two of them together meet demand 3.
 pub mod Demand3

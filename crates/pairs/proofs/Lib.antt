@@ -1,1 +1,2 @@
 pub mod Paired
+pub mod Determined

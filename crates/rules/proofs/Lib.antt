@@ -11,3 +11,4 @@ pub mod Granted
 pub mod Named
 pub mod Spent
 pub mod Searching
+pub mod Determined

@@ -3,3 +3,4 @@ pub mod Chained
 pub mod Stood
 pub mod Sale
 pub mod Cleared
+pub mod Determined

@@ -3,3 +3,4 @@ pub mod Eight
 pub mod Reader
 pub mod Writer
 pub mod RoundTrip
+pub mod Determined

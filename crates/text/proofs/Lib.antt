@@ -3,3 +3,4 @@ pub mod Writing
 pub mod Digits
 pub mod Cut
 pub mod Room
+pub mod Determined

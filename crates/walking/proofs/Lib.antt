@@ -2,3 +2,4 @@
 pub mod Lines
 pub mod Joined
 pub mod Parts
+pub mod Determined

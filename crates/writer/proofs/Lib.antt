@@ -1,2 +1,3 @@
 pub mod Writing
 pub mod Emptying
+pub mod Determined

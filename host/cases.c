@@ -1,0 +1,227 @@
+/* Tries the library on cases: the rows of a file, whose head says how they are read. A row says what is done to a book, a
+   token list and a tape, and what is shown of them. This program decides nothing.
+
+       cases ROWS */
+#include <stdio.h>
+#include <stdlib.h>
+#include <string.h>
+
+#include "both.h"
+
+enum { LIST = MOST_LISTED + 1, WORDS = BOOK_WORDS + 1, BYTES = BOOK_BYTES + 4, MOST_VERDICTS = 32, TEXT = 1 << 20 };
+
+/* What a row is tried on, and what it has said so far: its last five numbers, oldest first; how much is lent of the list,
+   of the book, and of the tape to be written; where the tape ends. */
+static struct trial {
+    enum form form;
+    uint32_t list[LIST], book[WORDS], said[5];
+    uint8_t bytes[BYTES];
+    size_t tokens, words, part, end;
+} t;
+
+static const struct ledger *const LIBRARY = &LEDGERS[PROVED];
+
+static size_t smaller(size_t a, size_t b)
+{
+    return a < b ? a : b;
+}
+
+static void show(size_t number)
+{
+    printf(" %zu", number);
+}
+
+/* ---- the list and the book ---- */
+
+static size_t place(uint32_t record, uint32_t word)
+{
+    return RECORD_WORDS * (size_t)record + word;
+}
+
+/* What is lent of the book; a word past it is 0, and isn't stored. */
+static uint32_t word_at(size_t at)
+{
+    return at < t.words ? t.book[at] : 0;
+}
+
+static void store(size_t at, uint32_t word)
+{
+    if (at < t.words)
+        t.book[at] = word;
+}
+
+/* A record in use, with n tokens from the first on. */
+static void put_run(uint32_t record, uint32_t amount, uint32_t sales, uint32_t first, uint32_t n)
+{
+    uint32_t head[] = {1, amount, n, sales};
+    for (uint32_t i = 0; i < 4; i++)
+        store(place(record, i), head[i]);
+    for (uint32_t i = 0; i < n; i++)
+        store(place(record, 4) + i, first + i);
+}
+
+/* The book is opened in place, from a copy. */
+static uint8_t open_book(void)
+{
+    static uint32_t slips[WORDS];
+    memcpy(slips, t.book, sizeof slips);
+    return LIBRARY->open(t.list, t.tokens, slips, t.words, t.book, t.words);
+}
+
+/* ---- the tape, or a book on file ---- */
+
+static void read_record(size_t at, size_t bytes)
+{
+    uint32_t fields[5];
+    uint8_t answer = LIBRARY->read(t.bytes, bytes, at, fields, 5);
+    show(answer);
+    show(LIBRARY->read_next(t.bytes, bytes, at));
+    for (int i = 0; answer != 16 && i < 5; i++)
+        show(fields[i]);
+}
+
+static void run(size_t verdicts, size_t bytes)
+{
+    uint8_t buffer[MOST_VERDICTS];
+    size_t n = smaller(verdicts, MOST_VERDICTS);
+    for (size_t i = 0; i < n; i++)
+        buffer[i] = 99;
+    show(LIBRARY->run[t.form](t.list, t.tokens, t.book, t.words, t.bytes, bytes, buffer, n));
+    for (size_t i = 0; i < n; i++)
+        show(buffer[i]);
+}
+
+/* ---- what a sign does with the numbers before it ---- */
+
+static void on_bytes(char sign, uint32_t a, uint32_t b, const uint8_t *five)
+{
+    size_t n = smaller(b, BYTES), end = smaller(t.end, BYTES);
+    switch (sign) {
+    case '.':
+        if (a < BYTES)
+            t.bytes[a] = (uint8_t)b;
+        break;
+    case ',':
+        show(LIBRARY->write(five[0], five[1], five[2], five[3], b, t.bytes + end, smaller(t.part, BYTES - end)));
+        t.end += t.part;
+        break;
+    case '^':
+        read_record(a, n);
+        break;
+    case '~':
+        run(a, n);
+        break;
+    case '>':
+        show(LIBRARY->to_bytes(t.book, t.words, t.bytes, n));
+        break;
+    case '<':
+        show(LIBRARY->from_bytes(t.bytes, n, t.book, t.words));
+        break;
+    }
+}
+
+static void on_book(char sign, const uint32_t *s, const uint8_t *five)
+{
+    switch (sign) {
+    case '@':
+        if (s[3] < t.tokens)
+            t.list[s[3]] = s[4];
+        break;
+    case '=':
+        store(place(s[2], s[3]), s[4]);
+        break;
+    case '&':
+        put_run(s[0], s[1], s[2], s[3], s[4]);
+        break;
+    case '*':
+        show(LIBRARY->empty(t.book, t.words));
+        break;
+    case '?':
+        show(word_at(place(s[3], s[4])));
+        t.said[4]++;
+        break;
+    case '!':
+        show(LIBRARY->sound[t.form](t.list, t.tokens, t.book, t.words));
+        break;
+    case '/':
+        show(open_book());
+        break;
+    case ';':
+        show(LIBRARY->step[t.form](t.list, t.tokens, t.book, t.words, five[0], five[1], five[2], five[3], s[4]));
+        break;
+    default:
+        on_bytes(sign, s[3], s[4], five);
+    }
+}
+
+static void on_sign(char sign)
+{
+    uint32_t *s = t.said;
+    uint8_t five[] = {(uint8_t)s[0], (uint8_t)s[1], (uint8_t)s[2], (uint8_t)s[3]};
+    if (sign == ' ') {
+        for (int i = 0; i < 4; i++)
+            s[i] = s[i + 1];
+        s[4] = 0;
+    } else if (sign >= '0' && sign <= '9') {
+        s[4] = 10 * s[4] + (uint32_t)(sign - '0');
+    } else if (sign == '#') {
+        t.tokens = smaller(s[4], LIST);
+    } else if (sign == '$') {
+        t.words = smaller(s[4], WORDS);
+    } else if (sign == '%') {
+        t.part = s[4];
+    } else {
+        on_book(sign, s, five);
+    }
+}
+
+/* ---- rows: a letter for the books it is tried on, a name up to a colon, and what is done ---- */
+
+/* Token 100 + p stands at place p, but 0, a token as good as any, at place 140. */
+static void begin(enum form form, const uint32_t *loaded)
+{
+    memset(&t, 0, sizeof t);
+    t.form = form;
+    t.tokens = 160;
+    t.words = BOOK_WORDS;
+    t.part = 8;
+    memcpy(t.book, loaded, 4 * BOOK_WORDS);
+    for (uint32_t i = 0; i < LIST; i++)
+        t.list[i] = i == 140 ? 0 : 100 + i;
+}
+
+static void try_row(enum form form, uint32_t *loaded, const char *row, size_t length)
+{
+    const char *letter = form == PLAIN ? "bpl" : "bsl";
+    size_t name = 1;
+    while (name < length && row[name] != ':')
+        name++;
+    if (name >= length || memchr(letter, row[0], 3) == NULL)
+        return;
+    printf("%s%.*s:", form == PLAIN ? "plain" : "slip ", (int)name - 1, row + 1);
+    begin(form, loaded);
+    for (size_t i = name + 1; i < length; i++)
+        on_sign(row[i]);
+    printf("\n");
+    if (row[0] == 'l')
+        memcpy(loaded, t.book, 4 * BOOK_WORDS);
+}
+
+int main(int words, char **word)
+{
+    static char text[TEXT];
+    static uint32_t loaded[2][BOOK_WORDS];
+    FILE *rows = words == 2 ? fopen(word[1], "rb") : NULL;
+    size_t size = rows ? fread(text, 1, TEXT, rows) : TEXT, end;
+    if (size == TEXT) {
+        printf("cases ROWS: no rows, or too many\n");
+        return 2;
+    }
+    for (size_t at = 0; at < size; at = end + 1) {
+        for (end = at; end < size && text[end] != '\n';)
+            end++;
+        for (enum form form = PLAIN; form <= SLIP; form++)
+            try_row(form, loaded[form], text + at, end - at);
+    }
+    return 0;
+}

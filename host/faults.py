@@ -1,0 +1,108 @@
+"""Faults for host/test to plant in host/ledger.c, one at a time: what is wrong, the text as it is, and as it is then."""
+
+FAULTS = [
+    (
+        "a limit: an update up to 33 tokens",
+        "held + n > 32)",
+        "held + n > 33)",
+    ),
+    (
+        "an order of verdicts: 10 before 9",
+        """    if (kind == UPDATE && held + n > 32)
+        return 9;
+    if (kind == UPDATE && held + n > left)
+        return 10;
+""",
+        """    if (kind == UPDATE && held + n > left)
+        return 10;
+    if (kind == UPDATE && held + n > 32)
+        return 9;
+""",
+    ),
+    (
+        "a word not written: a stock isn't counted as dealt",
+        "    d->own[AMOUNT] += (uint32_t)count;\n",
+        "",
+    ),
+    (
+        "a slip judged by its first token when its line is cleared",
+        "size_t n = waiting(d, tokens), held = d->customer_view[COUNT];\n",
+        """size_t n = waiting(d, tokens), held = d->customer_view[COUNT];
+    if (d->form == SLIP)
+        for (n = 0; n < d->line[SALES]; n++)
+            tokens[n] = d->line[CELL + 2 * n];
+""",
+    ),
+    (
+        "a slip that holds its last token",
+        "d->line[CELL] = d->carnet[CELL];",
+        "d->line[CELL] = d->carnet[CELL + n - 1];",
+    ),
+    (
+        "a sum that wraps: the money in 32 bits",
+        "uint64_t money = 0, joined = 0;",
+        "uint32_t money = 0;\n    uint64_t joined = 0;",
+    ),
+    (
+        "a refused step that writes: a line with a dead token is cleared",
+        "    if (verdict == 0)\n        do_step",
+        "    if (verdict == 0 || verdict == 15)\n        do_step",
+    ),
+    (
+        "a value lost: a carnet refreshed from the carnet and not from the desk's view",
+        "uint32_t count = d->customer_view[COUNT] + n;",
+        "uint32_t count = d->carnet[COUNT] + n;",
+    ),
+    (
+        "an order of tokens: a new sale behind the older ones",
+        """        make_room(d->line, d->line[COUNT], n);
+        for (size_t i = 0; i < n; i++)
+            d->line[CELL + i] = d->carnet[CELL + i];
+""",
+        """        for (size_t i = 0; i < n; i++)
+            d->line[CELL + d->line[COUNT] + i] = d->carnet[CELL + i];
+""",
+    ),
+    (
+        "another bench paid: a clear credits the next one",
+        "d->bench_view[AMOUNT] += (uint32_t)n;",
+        "d->bench_view[RECORD + AMOUNT] += (uint32_t)n;",
+    ),
+    (
+        "the old clearing fault: one cell past an even number of tokens is read",
+        """    for (size_t i = 0; i < d->line[COUNT]; i++)
+        tokens[i] = d->line[CELL + i];
+    return d->line[COUNT];
+""",
+        """    size_t past = d->line[COUNT] % 2 == 0 && d->line[COUNT] < CELLS;
+    for (size_t i = 0; i < d->line[COUNT] + past; i++)
+        tokens[i] = d->line[CELL + i];
+    return d->line[COUNT] + past;
+""",
+    ),
+    (
+        "a clause of soundness not asked: a token twice in one till",
+        "        if (!all_different(held, gather(book, till, till + 1, held)))\n",
+        "        if (gather(book, till, till + 1, held) > CELLS)\n",
+    ),
+    (
+        "a record let pass: a clear with an amount",
+        "return kind == JOIN_CUSTOMER || kind == UPDATE || kind == STOCK || kind == SELL;",
+        "return kind == JOIN_CUSTOMER || kind == UPDATE || kind == STOCK || kind == SELL || kind == CLEAR;",
+    ),
+    (
+        "a place that wraps: the reader far past the end",
+        "return place <= bytes && bytes - place >= 8;",
+        "return place + 8 <= bytes;",
+    ),
+    (
+        "a length not asked: a tape that ends within a record",
+        "bytes % 8 != 0 || count != bytes / 8",
+        "count != bytes / 8",
+    ),
+    (
+        "an order of bytes: a book on file with the highest first",
+        "bytes[i] = (uint8_t)(word >> 8 * i);",
+        "bytes[3 - i] = (uint8_t)(word >> 8 * i);",
+    ),
+]
