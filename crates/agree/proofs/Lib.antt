@@ -6,5 +6,3 @@ pub mod SameRun
 pub mod Agree
 pub mod Agreement
 pub mod SlipBook
-pub mod Ready
-pub mod Ahead

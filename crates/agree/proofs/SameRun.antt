@@ -7,15 +7,15 @@ use Rattle.rules.specs.Lists.{ℕ, true, List, [], _∷_}
 use Rattle.rules.specs.Form.{plain}
 use Rattle.rules.specs.Slips.{openBook, slipSound, slip}
 use Rattle.rules.specs.Steps.{changes, effect}
-use Rattle.rules.specs.Verdicts.{verdict, step, steps}
+use Rattle.rules.specs.Verdicts.{verdict, step, Ran, steps}
 use Rattle.rules.proofs.Tests.{same}
 use Rattle.rules.proofs.Stepping.{step-granted, step-refused, step-verdict}
 use Rattle.rules.proofs.Named.{Each}
 use Rattle.laws.proofs.Changes.{Fit}
 use Rattle.laws.proofs.ReflectSlips.{SlipSound, slip-sound-facts, slip-sound-test}
-use Rattle.rules.proofs.Granted.{granted-good, kind-from, kind-to}
+use Rattle.rules.proofs.Granted.{granted-good, granted-kind}
 use Rattle.keeps.proofs.Fits.{fits, changes-apart}
-use Rattle.keeps.proofs.Keeps.{plain-keeps, step-keeps}
+use Rattle.keeps.proofs.Keeps.{plain-keeps, along-sound}
 use Rattle.agree.proofs.SameVerdict.{same-verdict}
 use Rattle.agree.proofs.OpenChanges.{fine-opens, fine-slip-sound}
 use Rattle.agree.proofs.SameStep.{slip-fine, slip-regular}
@@ -35,14 +35,14 @@ module _ (h : Hall) (ts b : List ℕ) (e : Entry) (v : verdict slip h ts b e ≡
   unfolding effect
   effect-opens =
       fine-opens h ts b ok (slip-fine h ts b e v .0) _ _ whole
-      (changes-apart slip h ts b e (e .kind) (kind-from slip h ts b e v) (kind-to slip h ts b e v)) (slip-fine h ts b e v .1)
+      (changes-apart slip h ts b e (e .kind) (granted-kind slip h ts b e v)) (slip-fine h ts b e v .1)
 
   pub slip-keeps : slipSound h ts (effect slip h ts b e) ≡ true
   unfolding effect
   slip-keeps =
       slip-sound-test h ts (effect slip h ts b e)
       (fine-slip-sound h ts b ok (slip-fine h ts b e v .0) _ _ whole
-      (changes-apart slip h ts b e (e .kind) (kind-from slip h ts b e v) (kind-to slip h ts b e v)) (slip-fine h ts b e v .1)
+      (changes-apart slip h ts b e (e .kind) (granted-kind slip h ts b e v)) (slip-fine h ts b e v .1)
       (plain-keeps h ts (openBook h ts b) e v′))
 
 -- ---- any step, and any number of them
@@ -68,21 +68,25 @@ same-step h ts b e good =
           (same (step slip h ts b e .number) 0);
     }
 
-pub record SameRun (h : Hall) (ts b : List ℕ) (es : List Entry) : Type 0 where
-  pub verdicts : steps slip h ts b es .verdicts ≡ steps plain h ts (openBook h ts b) es .verdicts
-  pub books : openBook h ts (steps slip h ts b es .book) ≡ steps plain h ts (openBook h ts b) es .book
+pub record Same (h : Hall) (ts b : List ℕ) (es : List Entry) (r : Ran) : Type 0 where
+  pub verdicts : r .verdicts ≡ steps plain h ts (openBook h ts b) es .verdicts
+  pub books : openBook h ts (r .book) ≡ steps plain h ts (openBook h ts b) es .book
+
+abbrev pub SameRun : Hall → List ℕ → List ℕ → List Entry → Type 0
+SameRun h ts b es = Same h ts b es (steps slip h ts b es)
 
 pub same-run : (h : Hall) (ts b : List ℕ) (es : List Entry) → slipSound h ts b ≡ true → SameRun h ts b es
 unfolding steps
-same-run h ts b [] good = record { verdicts = refl; books = refl }
-same-run h ts b (e ∷ es) good =
+same-run h ts =
+    along-sound slip slip-keeps h ts
+    (Same h ts)
+    (λ b good. record { verdicts = refl; books = refl })
+    (λ b e es rest good later.
     let one : SameStep h ts b e = same-step h ts b e good in
-    let b′ : List ℕ = step slip h ts b e .cells in
-    let rest : SameRun h ts (step slip h ts b e .cells) es = same-run h ts (step slip h ts b e .cells) es (step-keeps slip slip-keeps h ts b e good) in
     record {
       verdicts =
-          ap (λ (n : ℕ). n ∷ steps slip h ts b′ es .verdicts) (one .numbers)
+          ap (λ (n : ℕ). n ∷ rest .verdicts) (one .numbers)
           ∙ ap (λ (ns : List ℕ). step plain h ts (openBook h ts b) e .number ∷ ns)
-          (rest .verdicts ∙ ap (λ (x : List ℕ). steps plain h ts x es .verdicts) (one .books));
-      books = rest .books ∙ ap (λ (x : List ℕ). steps plain h ts x es .book) (one .books);
-    }
+          (later .verdicts ∙ ap (λ (x : List ℕ). steps plain h ts x es .verdicts) (one .books));
+      books = later .books ∙ ap (λ (x : List ℕ). steps plain h ts x es .book) (one .books);
+    })

@@ -6,21 +6,23 @@ use lib.ListN.{length-take}
 use Rattle.rules.specs.declared.Hall.{Hall}
 use Rattle.rules.specs.declared.Entry.{Entry}
 use Rattle.rules.specs.Lists.{ℕ, _+_, _-_, min, true, List, [], _++_, length, take, drop, every, occ, isIn, allDifferent}
-use Rattle.rules.specs.Hall.{mostHeld, mostSales, Carnet, View, BenchView, Till, Line, number, records}
+use Rattle.rules.specs.Hall.{mostHeld, mostSales, Desk, Carnet, View, BenchView, Till, Line, number, records}
 use Rattle.rules.specs.Records.{words, inUse, amount, count, sales, held, filled, made, recordAt}
 use Rattle.rules.specs.Tape.{Sell, kindOf, usesBench, usesCustomer}
 use Rattle.rules.specs.Form.{plain}
 use Rattle.rules.specs.Slips.{isRun, slipTokens, slipPairs, slipOf, slipLineGood, slipSum, slipsGood, openSlip, openSlips, openedLine, openBook, slip}
-use Rattle.rules.specs.Steps.{dealt, left, fresh, joining, dealing, updating, stocking, soldLine, selling, authenticating, clearing, changes, theCarnet, theView, theLine}
+use Rattle.rules.specs.Steps.{dealt, left, fresh, joining, dealing, updating, stocking, soldLine, selling, authenticating, settling, clearing, changes, theCarnet, theView, theLine}
 use Rattle.rules.specs.Verdicts.{verdict}
 use Rattle.rules.proofs.Stepping.{update-reads}
 use Rattle.laws.proofs.Blocks.{block-long}
-use Rattle.laws.proofs.Made.{made-amount, made-held}
+use Rattle.laws.proofs.Made.{made-held, amount-is}
 use Rattle.laws.proofs.Books.{full-at, known-at, list-different}
 use Rattle.laws.proofs.Places.{inside-below}
+use Rattle.laws.proofs.Changes.{at, at-long}
 use Rattle.laws.proofs.Opened.{open-same}
 use Rattle.laws.proofs.ReflectSlips.{SlipSound, slip-sound-facts, slip-line-facts, slip-line-test}
-use Rattle.rules.proofs.Granted.{kinds, granted-good, kind-from, kind-to, bench-inside, customer-inside, update-left, sell-enough, sell-room, sell-few}
+use Rattle.rules.proofs.ByKind.{by-kind}
+use Rattle.rules.proofs.Granted.{granted-good, bench-inside, customer-inside, update-left, sell-enough, sell-room, sell-few, granted-kind}
 use Rattle.keeps.proofs.Fits.{Regular}
 use Rattle.laws.proofs.Runs.{run-test, made-run, from, run-fits, run-drop}
 use Rattle.laws.proofs.SlipLines.{open-filled}
@@ -53,6 +55,9 @@ module _ (h : Hall) (ts b : List ℕ) (e : Entry) (ok : SlipSound h ts b) where
   different : allDifferent ts ≡ true
   different = list-different h ts o (opened-book h ts b ok)
 
+  desk-long : 1 < length (at h b Desk)
+  desk-long = omega (arith, at-long h b (ok .long) Desk tt)
+
   fresh-run : (n : ℕ) → n ≤ left ts b → isRun ts (made 0 0 (fresh ts b n)) ≡ true
   fresh-run n l = made-run ts different (dealt b) n (omega (arith, dealt-small h ts b ok))
 
@@ -62,9 +67,9 @@ module _ (h : Hall) (ts b : List ℕ) (e : Entry) (ok : SlipSound h ts b) where
   updates c enough =
       record {
         deals = omega arith;
-        desk = made-amount _ 0 [];
+        desk = amount-is _ (at h b Desk) desk-long;
         new = (fresh-run _ enough, (tt, (tt, tt)));
-        opens = update-reads h ts b o e (sym (word-amount h ts b ok 0)) (sym (before (number h (View (e .customer))) (omega arith)));
+        opens = update-reads h ts b o e (sym (before 0 (omega arith))) (sym (before (number h (View (e .customer))) (omega arith)));
       }
 
   pub stocks : e .bench < h .benches → SlipFine h ts b (dealt b + min (e .amount) (left ts b)) (stocking h b e ts) (stocking h o e ts)
@@ -72,9 +77,9 @@ module _ (h : Hall) (ts b : List ℕ) (e : Entry) (ok : SlipSound h ts b) where
   stocks m =
       record {
         deals = omega arith;
-        desk = made-amount _ 0 [];
+        desk = amount-is _ (at h b Desk) desk-long;
         new = (tt, (tt, (tt, tt)));
-        opens = rw (word-amount h ts b ok 0, before (number h (BenchView (e .bench))) (omega arith));
+        opens = rw (before 0 (omega arith), before (number h (BenchView (e .bench))) (omega arith));
       }
 
   pub authenticates : e .bench < h .benches → SlipFine h ts b (dealt b) (authenticating h b e) (authenticating h o e)
@@ -88,7 +93,7 @@ module _ (h : Hall) (ts b : List ℕ) (e : Entry) (ok : SlipSound h ts b) where
       }
 
   pub clears : e .bench < h .benches → e .customer < h .customers → SlipFine h ts b (dealt b) (clearing h b e slip ts) (clearing h o e plain ts)
-  unfolding clearing
+  unfolding settling clearing
   clears m c =
       let L : ℕ = number h (Line (e .bench) (e .customer)) in
       record {
@@ -101,7 +106,6 @@ module _ (h : Hall) (ts b : List ℕ) (e : Entry) (ok : SlipSound h ts b) where
               before (number h (View (e .customer))) (omega arith),
               before (number h (BenchView (e .bench))) (omega arith),
               line-tokens h ts b ok L (omega arith) (inside-below h (Line (e .bench) (e .customer)) (m, c)),
-              word-count h ts b ok L,
             );
       }
 
@@ -199,17 +203,19 @@ module _ (h : Hall) (ts b : List ℕ) (e : Entry) (v : verdict slip h ts b e ≡
   pub slip-fine : (d : ℕ) × SlipFine h ts b d (changes h b e slip ts (e .kind)) (changes h (openBook h ts b) e plain ts (e .kind))
   unfolding changes joining occ
   slip-fine =
-      kinds (λ k. e .kind ≡ k → (d : ℕ) × SlipFine h ts b d (changes h b e slip ts k) (changes h (openBook h ts b) e plain ts k))
-      (λ q. (dealt b, record { deals = omega arith; desk = refl; new = (none-run ts, (tt, tt)); opens = refl }))
-      (λ q. (dealt b, record { deals = omega arith; desk = refl; new = (tt, (tt, tt)); opens = refl }))
-      (λ q. (dealt b, record { deals = omega arith; desk = refl; new = (none-good ts (dealt b), tt); opens = rw (none-opens ts) }))
-      (λ q. (_, updates h ts b e ok (customer 4 q refl) (update-left slip h ts b e v q)))
-      (λ q. (_, stocks h ts b e ok (bench 5 q refl)))
-      (λ q. let s = sale q in (_, sells h ts b e ok (s .0) (s .1) (sell-enough slip h ts b e v q) (sell-room slip h ts b e v q) (s .2)))
-      (λ q. (_, authenticates h ts b e ok (bench 7 q refl)))
-      (λ q. (_, authenticates h ts b e ok (bench 8 q refl)))
-      (λ q. (_, clears h ts b e ok (bench 9 q refl) (customer 9 q refl)))
-      (e .kind) (kind-from slip h ts b e v) (kind-to slip h ts b e v) refl
+      by-kind (λ k. e .kind ≡ k → (d : ℕ) × SlipFine h ts b d (changes h b e slip ts k) (changes h (openBook h ts b) e plain ts k))
+      record {
+        join-customer = λ q. (dealt b, record { deals = omega arith; desk = refl; new = (none-run ts, (tt, tt)); opens = refl });
+        join-bench = λ q. (dealt b, record { deals = omega arith; desk = refl; new = (tt, (tt, tt)); opens = refl });
+        open-line = λ q. (dealt b, record { deals = omega arith; desk = refl; new = (none-good ts (dealt b), tt); opens = rw (none-opens ts) });
+        update = λ q. (_, updates h ts b e ok (customer 4 q refl) (update-left slip h ts b e v q));
+        stock = λ q. (_, stocks h ts b e ok (bench 5 q refl));
+        sell = λ q. let s = sale q in (_, sells h ts b e ok (s .0) (s .1) (sell-enough slip h ts b e v q) (sell-room slip h ts b e v q) (s .2));
+        bench-authenticates = λ q. (_, authenticates h ts b e ok (bench 7 q refl));
+        desk-authenticates = λ q. (_, authenticates h ts b e ok (bench 8 q refl));
+        clear = λ q. (_, clears h ts b e ok (bench 9 q refl) (customer 9 q refl));
+      }
+      (e .kind) (granted-kind slip h ts b e v) refl
 
 pub slip-regular : Regular slip
 slip-regular =

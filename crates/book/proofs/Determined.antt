@@ -10,6 +10,12 @@ use Rattle.book.proofs.cells.Reads as cells-call
 use Rattle.book.proofs.tokens_of.Reads as tokens-of-call
 use Rattle.book.proofs.word_of.Reads as word-of-call
 use Rattle.book.proofs.tokens_at.Reads as tokens-at-call
+use Rattle.book.proofs.carnet.Reads as carnet-call
+use Rattle.book.proofs.view.Reads as view-call
+use Rattle.book.proofs.bench_view.Reads as bench-view-call
+use Rattle.book.proofs.till.Reads as till-call
+use Rattle.book.proofs.line.Reads as line-call
+use Rattle.book.proofs.records.Reads as records-call
 use Rattle.book.proofs.book_words.Reads as book-words-call
 
 record-at-determined : (κs : _) (a : _) → Determined (record-at-call.Learnt κs a) (λ z e. z .now)
@@ -38,6 +44,24 @@ word-of-determined κs a = determined _ _ _ (λ z e p. p)
 
 tokens-at-determined : (κs : _) (a : _) → Determined (tokens-at-call.Learnt κs a) (λ z e. z .now)
 tokens-at-determined κs a = determined _ _ _ (λ z e p. p)
+
+carnet-determined : (κs : _) (a : _) → Determined (carnet-call.Learnt κs a) (λ z e. z)
+carnet-determined κs a = determined _ _ _ (λ z e p. p)
+
+view-determined : (κs : _) (a : _) → Determined (view-call.Learnt κs a) (λ z e. z)
+view-determined κs a = determined _ _ _ (λ z e p. p)
+
+bench-view-determined : (κs : _) (a : _) → Determined (bench-view-call.Learnt κs a) (λ z e. z)
+bench-view-determined κs a = determined _ _ _ (λ z e p. p)
+
+till-determined : (κs : _) (a : _) → Determined (till-call.Learnt κs a) (λ z e. z)
+till-determined κs a = determined _ _ _ (λ z e p. p)
+
+line-determined : (κs : _) (a : _) → Determined (line-call.Learnt κs a) (λ z e. z)
+line-determined κs a = determined _ _ _ (λ z e p. p)
+
+records-determined : (κs : _) (a : _) → Determined (records-call.Learnt κs a) (λ z e. z)
+records-determined κs a = determined _ _ _ (λ z e p. p)
 
 book-words-determined : (κs : _) (a : _) → Determined (book-words-call.Learnt κs a) (λ z e. z)
 book-words-determined κs a = determined _ _ _ (λ z e p. p)

@@ -1,10 +1,15 @@
-// The book's records, each read as a part of the book; how long a hall's book is, and the hall in use.
+// The book's records, each read as a part of the book; where each stands, how long a hall's book is, and the hall in use.
 ghost use mathlib.Core.Path.{_≡_};
 ghost use Prim.Native.Nat.{_+_, _*_, _≤_, _<_};
 ghost use lib.ListN.{length, getD};
-ghost use Rattle.rules.specs.Hall.{records};
+ghost use Rattle.rules.specs.Hall.{Carnet, View, BenchView, Till, Line, number, records};
 ghost use Rattle.rules.specs.Records.{words, inUse, amount, count, sales, cells, held, recordAt};
+
+pub mod forms;
+pub mod writing;
+
 use rules::Hall;
+use tokens::searching;
 
 // ---- a record, read
 
@@ -57,7 +62,7 @@ pub fn tokens_of(rec: &[u32]) -> &[u32]
     requires { ⌜ 4 ≤ length (now rec) ⌝ }
     ensures { λ r. ⌜ now r ≡ held (now (rec .entry)) ⌝ }
 {
-    let n = words::smaller(count(rec) as usize, rec.len() - 4);
+    let n = searching::smaller(count(rec) as usize, rec.len() - 4);
     let e = 4 + n;
     &rec[4..e]
 }
@@ -79,16 +84,58 @@ pub fn tokens_at(book: &[u32], k: usize) -> &[u32]
     tokens_of(record_at(book, k))
 }
 
+// ---- where each record stands
+
+// A party goes by its byte of the tape, so that a hall of at most 64 and 64 keeps every number in range. Every hall planned
+// is below that.
+pub fn carnet(h: Hall, c: u8) -> usize
+    ensures { λ r. ⌜ r ≡ number h (Carnet c) ⌝ }
+{
+    1 + c as usize
+}
+
+pub fn view(h: Hall, c: u8) -> usize
+    requires { ⌜ (h .customers ≤ 64) × (h .benches ≤ 64) ⌝ }
+    ensures { λ r. ⌜ r ≡ number h (View c) ⌝ }
+{
+    1 + h.customers + c as usize
+}
+
+pub fn bench_view(h: Hall, m: u8) -> usize
+    requires { ⌜ (h .customers ≤ 64) × (h .benches ≤ 64) ⌝ }
+    ensures { λ r. ⌜ r ≡ number h (BenchView m) ⌝ }
+{
+    1 + 2 * h.customers + m as usize
+}
+
+pub fn till(h: Hall, m: u8) -> usize
+    requires { ⌜ (h .customers ≤ 64) × (h .benches ≤ 64) ⌝ }
+    ensures { λ r. ⌜ r ≡ number h (Till m) ⌝ }
+{
+    1 + 2 * h.customers + h.benches + m as usize
+}
+
+pub fn line(h: Hall, m: u8, c: u8) -> usize
+    requires { ⌜ (h .customers ≤ 64) × (h .benches ≤ 64) ⌝ }
+    ensures { λ r. ⌜ r ≡ number h (Line m c) ⌝ }
+{
+    1 + 2 * h.customers + 2 * h.benches + h.customers * m as usize + c as usize
+}
+
 // ---- the whole book
 
-// The bound keeps the product in range, and every hall planned is below it.
+pub fn records(h: Hall) -> usize
+    requires { ⌜ (h .customers ≤ 64) × (h .benches ≤ 64) ⌝ }
+    ensures { λ r. ⌜ r ≡ records h ⌝ }
+{
+    1 + 2 * h.customers + 2 * h.benches + h.customers * h.benches
+}
+
 pub fn book_words(h: Hall) -> usize
     requires { ⌜ (h .customers ≤ 64) × (h .benches ≤ 64) ⌝ }
     ensures { λ r. ⌜ r ≡ words * records h ⌝ }
 {
-    let c = h.customers;
-    let b = h.benches;
-    36 * (1 + 2 * c + 2 * b + c * b)
+    36 * records(h)
 }
 
 // The hall in use, `mainHall`.

@@ -1,1 +1,1 @@
-pub mod Kept
+-- What the contracts cite beside the rules: the table of verdict numbers, one kind at a time.

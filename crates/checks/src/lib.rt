@@ -1,136 +1,131 @@
-// What soundness asks of a record by itself. Inner, all of them: the record is one of a book whose length was tested.
+// The chain of checks: for each kind, the first number of the table that applies, from 4 on. Every function is told the
+// words that the kind's tests read, and takes any words.
 ghost use mathlib.Core.Path.{_≡_};
-ghost use Prim.Native.Nat.{_≤_};
-ghost use lib.ListN.{length};
-ghost use Rattle.rules.specs.Lists.{_&&_, _||_, eqb, allZero, allDifferent};
-ghost use Rattle.rules.specs.Records.{words, inUse, held};
-ghost use Rattle.rules.specs.Sound.{shaped, deskGood, bare, lineGood, placeGood, recordGood};
-ghost use Rattle.checks.specs.Kept.{kept};
-use rules::Hall;
+ghost use Rattle.rules.specs.Answers.{first};
+ghost use Rattle.kinds.specs.Chains.{joinCustomerRules, joinBenchRules, openRules, updateRules, stockRules, lineRules, saleRules, clearRules, authenticateRules};
 
-// A record not in use has nothing else in it either.
-fn is_used_or_blank(rec: &[u32]) -> bool
-    requires { ⌜ length (now rec) ≡ words ⌝ }
-    ensures { λ r. ⌜ r ≡ (eqb (inUse (now (rec .entry))) 1 || allZero (now (rec .entry))) ⌝ }
+pub fn join_customer(carnet: u32, budget: u32) -> u8
+    ensures { λ r. ⌜ r ≡ first (joinCustomerRules carnet budget) ⌝ }
 {
-    if book::in_use(rec) == 1 {
-        return true;
+    if carnet == 1 {
+        return 4;
     }
-    words::is_blank(rec)
+    if 1000000 < budget {
+        return 7;
+    }
+    0
 }
 
-// In use or blank, and no more tokens than a record holds: what a slip line is asked too.
-pub fn is_kept(rec: &[u32]) -> bool
-    requires { ⌜ length (now rec) ≡ words ⌝ }
-    ensures { λ r. ⌜ r ≡ kept (now (rec .entry)) ⌝ }
+pub fn join_bench(till: u32) -> u8
+    ensures { λ r. ⌜ r ≡ first (joinBenchRules till) ⌝ }
 {
-    if 1 < book::in_use(rec) {
-        return false;
+    if till == 1 {
+        return 4;
     }
-    if !is_used_or_blank(rec) {
-        return false;
-    }
-    book::count(rec) <= 32
+    0
 }
 
-fn is_shaped(rec: &[u32]) -> bool
-    requires { ⌜ length (now rec) ≡ words ⌝ }
-    ensures { λ r. ⌜ r ≡ shaped (now (rec .entry)) ⌝ }
+pub fn open(line: u32, bench: u32, customer: u32) -> u8
+    ensures { λ r. ⌜ r ≡ first (openRules line bench customer) ⌝ }
 {
-    if !is_kept(rec) {
-        return false;
+    if line == 1 {
+        return 4;
     }
-    let past = 4 + book::count(rec) as usize;
-    words::is_blank(&rec[past..])
+    if bench != 1 {
+        return 5;
+    }
+    if customer != 1 {
+        return 5;
+    }
+    0
 }
 
-fn is_desk(list: &[u32], rec: &[u32]) -> bool
-    requires { ⌜ length (now rec) ≡ words ⌝ }
-    ensures { λ r. ⌜ r ≡ deskGood (now (list .entry)) (now (rec .entry)) ⌝ }
+pub fn update(view: u32, budget: u32, held: u32, left: usize, n: u32) -> u8
+    ensures { λ r. ⌜ r ≡ first (updateRules view budget held left n) ⌝ }
 {
-    if book::in_use(rec) != 1 {
-        return false;
+    if view != 1 {
+        return 5;
     }
-    let dealt = book::amount(rec) as usize;
-    if list.len() < dealt {
-        return false;
+    if budget < n {
+        return 8;
     }
-    words::is_blank(&rec[2..])
+    let total = held as usize + n as usize;
+    if 32 < total {
+        return 9;
+    }
+    if left < total {
+        return 10;
+    }
+    0
 }
 
-fn is_bare(rec: &[u32]) -> bool
-    requires { ⌜ length (now rec) ≡ words ⌝ }
-    ensures { λ r. ⌜ r ≡ bare (now (rec .entry)) ⌝ }
+pub fn stock(view: u32, n: u32) -> u8
+    ensures { λ r. ⌜ r ≡ first (stockRules view n) ⌝ }
 {
-    if book::amount(rec) != 0 {
-        return false;
+    if view != 1 {
+        return 5;
     }
-    book::sales(rec) == 0
+    if 32 < n {
+        return 7;
+    }
+    0
 }
 
-fn is_till(rec: &[u32]) -> bool
-    requires { ⌜ length (now rec) ≡ words ⌝ }
-    ensures { λ r. ⌜ r ≡ (bare (now (rec .entry)) && allDifferent (held (now (rec .entry)))) ⌝ }
+// A sale or a clear, so far as both are judged alike.
+pub fn line(bench: u32, customer: u32, line: u32) -> u8
+    ensures { λ r. ⌜ r ≡ first (lineRules bench customer line) ⌝ }
 {
-    if !is_bare(rec) {
-        return false;
+    if bench != 1 {
+        return 5;
     }
-    let tokens = book::tokens_of(rec);
-    words::all_different(tokens)
+    if customer != 1 {
+        return 5;
+    }
+    if line != 1 {
+        return 6;
+    }
+    0
 }
 
-fn is_line(rec: &[u32]) -> bool
-    requires { ⌜ length (now rec) ≡ words ⌝ }
-    ensures { λ r. ⌜ r ≡ lineGood (now (rec .entry)) ⌝ }
+pub fn sale(carnet: u32, line: u32, sales: u32, n: u32) -> u8
+    ensures { λ r. ⌜ r ≡ first (saleRules carnet line sales n) ⌝ }
 {
-    if book::amount(rec) != 0 {
-        return false;
+    if carnet < n {
+        return 11;
     }
-    let sales = book::sales(rec) as usize;
-    if 16 < sales {
-        return false;
+    let total = line as usize + n as usize;
+    if 32 < total {
+        return 12;
     }
-    let count = book::count(rec) as usize;
-    if count < sales {
-        return false;
+    if n == 0 {
+        return 0;
     }
-    words::smaller(sales, 1) == words::smaller(count, 1)
+    if sales == 16 {
+        return 12;
+    }
+    0
 }
 
-// What record k is asked for its place: the desk, a carnet, a desk's view, a till, a line.
-fn fits_place(h: Hall, list: &[u32], k: usize, rec: &[u32]) -> bool
-    requires { ⌜ (length (now rec) ≡ words) × (h .customers ≤ 64) × (h .benches ≤ 64) ⌝ }
-    ensures { λ r. ⌜ r ≡ placeGood h (now (list .entry)) k (now (rec .entry)) ⌝ }
+pub fn clear(lives: bool) -> u8
+    ensures { λ r. ⌜ r ≡ first (clearRules lives) ⌝ }
 {
-    if k < 1 {
-        return is_desk(list, rec);
-    }
-    let views = 1 + h.customers;
-    if k < views {
-        return is_bare(rec);
-    }
-    let tills = views + h.customers + h.benches;
-    if k < tills {
-        return book::sales(rec) == 0;
-    }
-    let lines = tills + h.benches;
-    if k < lines {
-        return is_till(rec);
-    }
-    is_line(rec)
+    if lives { 0 } else { 15 }
 }
 
-// All that record k is asked by itself, with d tokens dealt.
-pub fn is_good(h: Hall, list: &[u32], d: usize, k: usize, rec: &[u32]) -> bool
-    requires { ⌜ (length (now rec) ≡ words) × (h .customers ≤ 64) × (h .benches ≤ 64) ⌝ }
-    ensures { λ r. ⌜ r ≡ recordGood h (now (list .entry)) d k (now (rec .entry)) ⌝ }
+pub fn authenticate(used: u32, till: u32, view: u32, mine: u32, theirs: u32) -> u8
+    ensures { λ r. ⌜ r ≡ first (authenticateRules used till view mine theirs) ⌝ }
 {
-    if !is_shaped(rec) {
-        return false;
+    if used != 1 {
+        return 5;
     }
-    let tokens = book::tokens_of(rec);
-    if !words::all_among(list, d, tokens) {
-        return false;
+    if till == 0 {
+        return 13;
     }
-    fits_place(h, list, k, rec)
+    if view == 0 {
+        return 13;
+    }
+    if mine != theirs {
+        return 14;
+    }
+    0
 }

@@ -15,19 +15,19 @@ is-good-determined : (κs : _) (a : _) → Determined (is-good-call.Learnt κs a
 is-good-determined κs a = determined _ _ _ (λ z e p. p)
 
 step-known-determined : (κs : _) (a : _) → Determined {O = ℕ × List ℕ} (step-known-call.Learnt κs a) (λ z e. (z, e .1 .1 .1 .0 .now))
-step-known-determined κs a = determined _ _ _ (λ z e p. both (p .0) (p .1))
+step-known-determined κs a = determined _ _ _ (λ z e p. both (p .number) (p .cells))
 
 run-known-determined : (κs : _) (a : _) → Determined {O = List ℕ × List ℕ} (run-known-call.Learnt κs a) (λ z e. (e .1 .1 .1 .0 .now, e .1 .1 .1 .1 .1 .0 .now))
-run-known-determined κs a = determined _ _ _ (λ z e p. both (p .0) (p .1))
+run-known-determined κs a = determined _ _ _ (λ z e p. both (p .book) (p .verdicts))
 
 step-of-determined : (κs : _) (a : _) → Determined {O = ℕ × List ℕ} (step-of-call.Learnt κs a) (λ z e. (z, e .1 .1 .1 .0 .now))
-step-of-determined κs a = determined _ _ _ (λ z e p. both (p .0) (p .1))
+step-of-determined κs a = determined _ _ _ (λ z e p. both (p .number) (p .cells))
 
 run-of-determined : (κs : _) (a : _) → Determined {O = ℕ × (List ℕ × List ℕ)} (run-of-call.Learnt κs a) (λ z e. (z, (e .1 .1 .1 .0 .now, e .1 .1 .1 .1 .1 .0 .now)))
-run-of-determined κs a = determined _ _ _ (λ z e p. both (p .0) (both (p .1) (p .2)))
+run-of-determined κs a = determined _ _ _ (λ z e p. both (p .answer) (both (p .book) (p .verdicts)))
 
 step-determined : (κs : _) (a : _) → Determined {O = ℕ × List ℕ} (step-call.Learnt κs a) (λ z e. (z, e .1 .1 .0 .now))
-step-determined κs a = determined _ _ _ (λ z e p. both (p .0) (p .1))
+step-determined κs a = determined _ _ _ (λ z e p. both (p .number) (p .cells))
 
 run-determined : (κs : _) (a : _) → Determined {O = ℕ × (List ℕ × List ℕ)} (run-call.Learnt κs a) (λ z e. (z, (e .1 .1 .0 .now, e .1 .1 .1 .1 .0 .now)))
-run-determined κs a = determined _ _ _ (λ z e p. both (p .0) (both (p .1) (p .2)))
+run-determined κs a = determined _ _ _ (λ z e p. both (p .answer) (both (p .book) (p .verdicts)))

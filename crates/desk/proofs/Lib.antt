@@ -1,3 +1,4 @@
+pub mod Ahead
 pub mod Refused
 pub mod Kind
 pub mod Determined

@@ -6,14 +6,15 @@ ghost use Prim.Native.Nat.{_*_, _≤_};
 ghost use lib.ListN.{length};
 ghost use Rattle.rules.specs.Lists.{eqb};
 ghost use Rattle.rules.specs.Hall.{mainHall};
-ghost use Rattle.rules.specs.Answers.{first};
+ghost use Rattle.rules.specs.Answers.{first, Gives};
 ghost use Rattle.rules.specs.Tape.{entryRules, entries};
-ghost use Rattle.rules.specs.Verdicts.{step, steps, run};
-ghost use Rattle.lines.specs.Forms.{formOf};
+ghost use Rattle.rules.specs.Verdicts.{step, steps, run, RunGives};
+ghost use Rattle.book.specs.Forms.{formOf};
 ghost use Rattle.desk.specs.Known.{Known};
-use lines::Form;
+use book::forms::Form;
 use rules::Entry;
 use rules::Hall;
+use steps::sales;
 
 pub fn is_good(form: Form, h: Hall, tokens: &[u32], book: &[u32]) -> bool
     requires { ⌜ (h .customers ≤ 64) × (h .benches ≤ 64) ⌝ }
@@ -30,22 +31,22 @@ pub fn is_good(form: Form, h: Hall, tokens: &[u32], book: &[u32]) -> bool
 // The record has passed numbers 1 to 3: its kind's own checks and changes.
 fn step_kind(form: Form, h: Hall, tokens: &[u32], book: &mut [u32], e: Entry) -> u8
     requires { ⌜ Known (formOf form) h (now tokens) (now book) × (first (entryRules h e) ≡ 0) ⌝ }
-    ensures { λ r. ⌜ (r ≡ step (formOf form) h (now (tokens .entry)) (now (book .entry)) e .number) × (now (book .exit) ≡ step (formOf form) h (now (tokens .entry)) (now (book .entry)) e .cells) ⌝ }
+    ensures { λ r. ⌜ Gives (step (formOf form) h (now (tokens .entry)) (now (book .entry)) e) r (now (book .exit)) ⌝ }
 {
     if e.kind == 1 {
-        return kinds::join_customer(h, book, e);
+        return steps::join_customer(h, book, e);
     }
     if e.kind == 2 {
-        return kinds::join_bench(h, book, e);
+        return steps::join_bench(h, book, e);
     }
     if e.kind == 3 {
-        return kinds::open_line(h, book, e);
+        return steps::open_line(h, book, e);
     }
     if e.kind == 4 {
-        return kinds::update(h, tokens, book, e);
+        return steps::update(h, tokens, book, e);
     }
     if e.kind == 5 {
-        return kinds::stock(h, tokens, book, e);
+        return steps::stock(h, tokens, book, e);
     }
     if e.kind == 6 {
         return sales::sell(form, h, tokens, book, e);
@@ -53,12 +54,12 @@ fn step_kind(form: Form, h: Hall, tokens: &[u32], book: &mut [u32], e: Entry) ->
     if e.kind == 9 {
         return sales::clear(form, h, tokens, book, e);
     }
-    kinds::authenticate(h, book, e)
+    steps::authenticate(h, book, e)
 }
 
 pub fn step_known(form: Form, h: Hall, tokens: &[u32], book: &mut [u32], e: Entry) -> u8
     requires { ⌜ Known (formOf form) h (now tokens) (now book) ⌝ }
-    ensures { λ r. ⌜ (r ≡ step (formOf form) h (now (tokens .entry)) (now (book .entry)) e .number) × (now (book .exit) ≡ step (formOf form) h (now (tokens .entry)) (now (book .entry)) e .cells) ⌝ }
+    ensures { λ r. ⌜ Gives (step (formOf form) h (now (tokens .entry)) (now (book .entry)) e) r (now (book .exit)) ⌝ }
 {
     let refused = tape::judge(h, e);
     if refused != 0 {
@@ -77,7 +78,7 @@ pub fn run_known(
     verdicts: &mut [u8],
 )
     requires { ⌜ Known (formOf form) h (now tokens) (now book) × (length (now tape) ≡ 8 * length (now verdicts)) ⌝ }
-    ensures { λ _. ⌜ (now (book .exit) ≡ steps (formOf form) h (now (tokens .entry)) (now (book .entry)) (entries (length (now (verdicts .entry))) (now (tape .entry))) .book) × (now (verdicts .exit) ≡ steps (formOf form) h (now (tokens .entry)) (now (book .entry)) (entries (length (now (verdicts .entry))) (now (tape .entry))) .verdicts) ⌝ }
+    ensures { λ _. ⌜ RunGives (steps (formOf form) h (now (tokens .entry)) (now (book .entry)) (entries (length (now (verdicts .entry))) (now (tape .entry)))) 0 (now (book .exit)) (now (verdicts .exit)) ⌝ }
 {
     let mut i = 0;
     while i < verdicts.len() {
@@ -91,7 +92,7 @@ pub fn run_known(
 
 pub fn step_of(form: Form, h: Hall, tokens: &[u32], book: &mut [u32], e: Entry) -> u8
     requires { ⌜ (h .customers ≤ 64) × (h .benches ≤ 64) ⌝ }
-    ensures { λ r. ⌜ (r ≡ step (formOf form) h (now (tokens .entry)) (now (book .entry)) e .number) × (now (book .exit) ≡ step (formOf form) h (now (tokens .entry)) (now (book .entry)) e .cells) ⌝ }
+    ensures { λ r. ⌜ Gives (step (formOf form) h (now (tokens .entry)) (now (book .entry)) e) r (now (book .exit)) ⌝ }
 {
     if !is_good(form, h, tokens, book) {
         return 1;
@@ -118,7 +119,7 @@ pub fn run_of(
     verdicts: &mut [u8],
 ) -> u8
     requires { ⌜ (h .customers ≤ 64) × (h .benches ≤ 64) ⌝ }
-    ensures { λ r. ⌜ (r ≡ run (formOf form) h (now (tokens .entry)) (now (book .entry)) (now (tape .entry)) (now (verdicts .entry)) .answer) × (now (book .exit) ≡ run (formOf form) h (now (tokens .entry)) (now (book .entry)) (now (tape .entry)) (now (verdicts .entry)) .book) × (now (verdicts .exit) ≡ run (formOf form) h (now (tokens .entry)) (now (book .entry)) (now (tape .entry)) (now (verdicts .entry)) .verdicts) ⌝ }
+    ensures { λ r. ⌜ RunGives (run (formOf form) h (now (tokens .entry)) (now (book .entry)) (now (tape .entry)) (now (verdicts .entry))) r (now (book .exit)) (now (verdicts .exit)) ⌝ }
 {
     let good = is_good(form, h, tokens, book);
     let whole = is_one_each(tape.len(), verdicts.len());
@@ -135,13 +136,13 @@ pub fn run_of(
 // ---- in the hall in use
 
 pub fn step(form: Form, tokens: &[u32], book: &mut [u32], e: Entry) -> u8
-    ensures { λ r. ⌜ (r ≡ step (formOf form) mainHall (now (tokens .entry)) (now (book .entry)) e .number) × (now (book .exit) ≡ step (formOf form) mainHall (now (tokens .entry)) (now (book .entry)) e .cells) ⌝ }
+    ensures { λ r. ⌜ Gives (step (formOf form) mainHall (now (tokens .entry)) (now (book .entry)) e) r (now (book .exit)) ⌝ }
 {
     step_of(form, book::MAIN, tokens, book, e)
 }
 
 pub fn run(form: Form, tokens: &[u32], book: &mut [u32], tape: &[u8], verdicts: &mut [u8]) -> u8
-    ensures { λ r. ⌜ (r ≡ run (formOf form) mainHall (now (tokens .entry)) (now (book .entry)) (now (tape .entry)) (now (verdicts .entry)) .answer) × (now (book .exit) ≡ run (formOf form) mainHall (now (tokens .entry)) (now (book .entry)) (now (tape .entry)) (now (verdicts .entry)) .book) × (now (verdicts .exit) ≡ run (formOf form) mainHall (now (tokens .entry)) (now (book .entry)) (now (tape .entry)) (now (verdicts .entry)) .verdicts) ⌝ }
+    ensures { λ r. ⌜ RunGives (run (formOf form) mainHall (now (tokens .entry)) (now (book .entry)) (now (tape .entry)) (now (verdicts .entry))) r (now (book .exit)) (now (verdicts .exit)) ⌝ }
 {
     run_of(form, book::MAIN, tokens, book, tape, verdicts)
 }

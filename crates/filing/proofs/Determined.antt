@@ -10,16 +10,16 @@ use Rattle.filing.proofs.read_book.Reads as read-book-call
 use Rattle.filing.proofs.read_list.Reads as read-list-call
 
 write-book-of-determined : (κs : _) (a : _) → Determined {O = ℕ × List ℕ} (write-book-of-call.Learnt κs a) (λ z e. (z, e .1 .1 .0 .now))
-write-book-of-determined κs a = determined _ _ _ (λ z e p. both (p .0) (p .1))
+write-book-of-determined κs a = determined _ _ _ (λ z e p. both (p .number) (p .cells))
 
 read-book-of-determined : (κs : _) (a : _) → Determined {O = ℕ × List ℕ} (read-book-of-call.Learnt κs a) (λ z e. (z, e .1 .1 .0 .now))
-read-book-of-determined κs a = determined _ _ _ (λ z e p. both (p .0) (p .1))
+read-book-of-determined κs a = determined _ _ _ (λ z e p. both (p .number) (p .cells))
 
 write-book-determined : (κs : _) (a : _) → Determined {O = ℕ × List ℕ} (write-book-call.Learnt κs a) (λ z e. (z, e .1 .0 .now))
-write-book-determined κs a = determined _ _ _ (λ z e p. both (p .0) (p .1))
+write-book-determined κs a = determined _ _ _ (λ z e p. both (p .number) (p .cells))
 
 read-book-determined : (κs : _) (a : _) → Determined {O = ℕ × List ℕ} (read-book-call.Learnt κs a) (λ z e. (z, e .1 .0 .now))
-read-book-determined κs a = determined _ _ _ (λ z e p. both (p .0) (p .1))
+read-book-determined κs a = determined _ _ _ (λ z e p. both (p .number) (p .cells))
 
 read-list-determined : (κs : _) (a : _) → Determined {O = ℕ × List ℕ} (read-list-call.Learnt κs a) (λ z e. (z, e .1 .0 .now))
-read-list-determined κs a = determined _ _ _ (λ z e p. both (p .0) (p .1))
+read-list-determined κs a = determined _ _ _ (λ z e p. both (p .number) (p .cells))

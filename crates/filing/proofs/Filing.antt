@@ -10,7 +10,7 @@ use borrow.Author.Tests.{eqb-true}
 use Rattle.rules.specs.declared.Hall.{Hall}
 use Rattle.rules.specs.Lists.{ℕ, zero, suc, _+_, _*_, Bool, true, false, _&&_, eqb, List, [], _∷_, _++_, length, take, drop, getD}
 use Rattle.rules.specs.Hall.{records}
-use Rattle.rules.specs.Answers.{first, answer}
+use Rattle.rules.specs.Answers.{first, answer, Gives}
 use Rattle.rules.specs.Records.{words}
 use Rattle.rules.specs.Sound.{fits}
 use Rattle.rules.specs.Bytes.{bytesOf, wordOf, toBytes, toWords, lengths}
@@ -73,14 +73,13 @@ pub whole : (k m n : ℕ) (t : Bool) → t ≡ (eqb m k && eqb n (4 * m)) → t 
 whole k m n t tests y = eqb-true n _ (and-right (eqb m k) _ (sym tests ∙ y))
 
 module _ (h : Hall) (b bs : List ℕ) (t : Bool) (tests : t ≡ (eqb (length b) (words * records h) && eqb (length bs) (4 * length b))) (new old : List ℕ) where
-  pub wrong-length : t ≡ false → (1 ≡ answer (lengths h b bs) new old .number) × (old ≡ answer (lengths h b bs) new old .cells)
+  pub wrong-length : t ≡ false → Gives (answer (lengths h b bs) new old) 1 old
   unfolding fits answer first
-  wrong-length n = let e = sym tests ∙ n in (rw e, rw e)
+  wrong-length n = let e = sym tests ∙ n in record { number = rw e; cells = rw e }
 
-  pub right-length : t ≡ true → (x : List ℕ) → x ≡ new
-      → (0 ≡ answer (lengths h b bs) new old .number) × (x ≡ answer (lengths h b bs) new old .cells)
+  pub right-length : t ≡ true → (x : List ℕ) → x ≡ new → Gives (answer (lengths h b bs) new old) 0 x
   unfolding fits answer first
-  right-length y x f = let e = sym tests ∙ y in (rw e, f ∙ rw e)
+  right-length y x f = let e = sym tests ∙ y in record { number = rw e; cells = f ∙ rw e }
 
 -- ---- the loops' invariants: what the first i give, and where all are done
 pub record Bytes (ws out₀ out : List ℕ) (i : ℕ) : Type 0 where

@@ -2,12 +2,14 @@
 ghost use mathlib.Core.Path.{_≡_};
 ghost use Prim.Native.Nat.{_*_, _/_, _%_, _≤_};
 ghost use lib.ListN.{length};
+ghost use Rattle.rules.specs.Answers.{Gives};
 ghost use Rattle.rules.specs.Lists.{_&&_, eqb};
 ghost use Rattle.rules.specs.Hall.{mainHall, records};
 ghost use Rattle.rules.specs.Records.{words};
 ghost use Rattle.rules.specs.Bytes.{toBytes, toWords, writeBook, readBook};
 ghost use Rattle.rules.specs.Walk.{readList};
 use rules::Hall;
+use tokens::laying;
 
 // Each word's four bytes, one word after the other.
 fn lay_bytes(out: &mut [u8], from: &[u32])
@@ -47,7 +49,7 @@ fn lengths_fit(h: Hall, in_words: usize, in_bytes: usize) -> bool
 
 pub fn write_book_of(h: Hall, plain: &[u32], out: &mut [u8]) -> u8
     requires { ⌜ (h .customers ≤ 64) × (h .benches ≤ 64) ⌝ }
-    ensures { λ r. ⌜ (r ≡ writeBook h (now (plain .entry)) (now (out .entry)) .number) × (now (out .exit) ≡ writeBook h (now (plain .entry)) (now (out .entry)) .cells) ⌝ }
+    ensures { λ r. ⌜ Gives (writeBook h (now (plain .entry)) (now (out .entry))) r (now (out .exit)) ⌝ }
 {
     if !lengths_fit(h, plain.len(), out.len()) {
         return 1;
@@ -58,7 +60,7 @@ pub fn write_book_of(h: Hall, plain: &[u32], out: &mut [u8]) -> u8
 
 pub fn read_book_of(h: Hall, from: &[u8], out: &mut [u32]) -> u8
     requires { ⌜ (h .customers ≤ 64) × (h .benches ≤ 64) ⌝ }
-    ensures { λ r. ⌜ (r ≡ readBook h (now (from .entry)) (now (out .entry)) .number) × (now (out .exit) ≡ readBook h (now (from .entry)) (now (out .entry)) .cells) ⌝ }
+    ensures { λ r. ⌜ Gives (readBook h (now (from .entry)) (now (out .entry))) r (now (out .exit)) ⌝ }
 {
     if !lengths_fit(h, out.len(), from.len()) {
         return 1;
@@ -69,13 +71,13 @@ pub fn read_book_of(h: Hall, from: &[u8], out: &mut [u32]) -> u8
 
 // The main hall's book.
 pub fn write_book(plain: &[u32], out: &mut [u8]) -> u8
-    ensures { λ r. ⌜ (r ≡ writeBook mainHall (now (plain .entry)) (now (out .entry)) .number) × (now (out .exit) ≡ writeBook mainHall (now (plain .entry)) (now (out .entry)) .cells) ⌝ }
+    ensures { λ r. ⌜ Gives (writeBook mainHall (now (plain .entry)) (now (out .entry))) r (now (out .exit)) ⌝ }
 {
     write_book_of(book::MAIN, plain, out)
 }
 
 pub fn read_book(from: &[u8], out: &mut [u32]) -> u8
-    ensures { λ r. ⌜ (r ≡ readBook mainHall (now (from .entry)) (now (out .entry)) .number) × (now (out .exit) ≡ readBook mainHall (now (from .entry)) (now (out .entry)) .cells) ⌝ }
+    ensures { λ r. ⌜ Gives (readBook mainHall (now (from .entry)) (now (out .entry))) r (now (out .exit)) ⌝ }
 {
     read_book_of(book::MAIN, from, out)
 }
@@ -83,7 +85,7 @@ pub fn read_book(from: &[u8], out: &mut [u32]) -> u8
 // A token list, by way of a scratch as long as the list: it is judged there, since a refusal leaves the lent cells.
 fn take_list(list: &mut [u32], from: &[u8], out: &mut [u32]) -> u8
     requires { ⌜ (length (now list) ≡ length (now from) / 4) × (length (now from) % 4 ≡ 0) × (length (now list) ≤ length (now out)) ⌝ }
-    ensures { λ r. ⌜ (r ≡ readList (now (from .entry)) (now (out .entry)) .number) × (now (out .exit) ≡ readList (now (from .entry)) (now (out .entry)) .cells) ⌝ }
+    ensures { λ r. ⌜ Gives (readList (now (from .entry)) (now (out .entry))) r (now (out .exit)) ⌝ }
 {
     lay_words(list, from);
     if !sound::is_good_list(list) {
@@ -95,7 +97,7 @@ fn take_list(list: &mut [u32], from: &[u8], out: &mut [u32]) -> u8
 
 // A token list, into the front of the lent cells.
 pub fn read_list(from: &[u8], out: &mut [u32]) -> u8
-    ensures { λ r. ⌜ (r ≡ readList (now (from .entry)) (now (out .entry)) .number) × (now (out .exit) ≡ readList (now (from .entry)) (now (out .entry)) .cells) ⌝ }
+    ensures { λ r. ⌜ Gives (readList (now (from .entry)) (now (out .entry))) r (now (out .exit)) ⌝ }
 {
     let n = from.len() / 4;
     if from.len() % 4 != 0 {

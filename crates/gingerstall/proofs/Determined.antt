@@ -18,7 +18,7 @@ use Rattle.gingerstall.proofs.gs_read_next.Reads as gs-read-next-call
 use Rattle.gingerstall.proofs.gs_write.Reads as gs-write-call
 
 gs-empty-determined : (κs : _) (a : _) → Determined {O = ℕ × List ℕ} (gs-empty-call.Learnt κs a) (λ z e. (z, e .0 .now))
-gs-empty-determined κs a = determined _ _ _ (λ z e p. both (p .0) (p .1))
+gs-empty-determined κs a = determined _ _ _ (λ z e p. both (p .number) (p .cells))
 
 gs-sound-determined : (κs : _) (a : _) → Determined (gs-sound-call.Learnt κs a) (λ z e. z)
 gs-sound-determined κs a = determined _ _ _ (λ z e p. p)
@@ -27,31 +27,31 @@ gs-slip-sound-determined : (κs : _) (a : _) → Determined (gs-slip-sound-call.
 gs-slip-sound-determined κs a = determined _ _ _ (λ z e p. p)
 
 gs-step-determined : (κs : _) (a : _) → Determined {O = ℕ × List ℕ} (gs-step-call.Learnt κs a) (λ z e. (z, e .1 .0 .now))
-gs-step-determined κs a = determined _ _ _ (λ z e p. both (p .0) (p .1))
+gs-step-determined κs a = determined _ _ _ (λ z e p. both (p .number) (p .cells))
 
 gs-slip-step-determined : (κs : _) (a : _) → Determined {O = ℕ × List ℕ} (gs-slip-step-call.Learnt κs a) (λ z e. (z, e .1 .0 .now))
-gs-slip-step-determined κs a = determined _ _ _ (λ z e p. both (p .0) (p .1))
+gs-slip-step-determined κs a = determined _ _ _ (λ z e p. both (p .number) (p .cells))
 
 gs-run-determined : (κs : _) (a : _) → Determined {O = ℕ × (List ℕ × List ℕ)} (gs-run-call.Learnt κs a) (λ z e. (z, (e .1 .0 .now, e .1 .1 .1 .0 .now)))
-gs-run-determined κs a = determined _ _ _ (λ z e p. both (p .0) (both (p .1) (p .2)))
+gs-run-determined κs a = determined _ _ _ (λ z e p. both (p .answer) (both (p .book) (p .verdicts)))
 
 gs-slip-run-determined : (κs : _) (a : _) → Determined {O = ℕ × (List ℕ × List ℕ)} (gs-slip-run-call.Learnt κs a) (λ z e. (z, (e .1 .0 .now, e .1 .1 .1 .0 .now)))
-gs-slip-run-determined κs a = determined _ _ _ (λ z e p. both (p .0) (both (p .1) (p .2)))
+gs-slip-run-determined κs a = determined _ _ _ (λ z e p. both (p .answer) (both (p .book) (p .verdicts)))
 
 gs-slip-open-determined : (κs : _) (a : _) → Determined {O = ℕ × List ℕ} (gs-slip-open-call.Learnt κs a) (λ z e. (z, e .1 .1 .0 .now))
-gs-slip-open-determined κs a = determined _ _ _ (λ z e p. both (p .0) (p .1))
+gs-slip-open-determined κs a = determined _ _ _ (λ z e p. both (p .number) (p .cells))
 
 gs-book-to-bytes-determined : (κs : _) (a : _) → Determined {O = ℕ × List ℕ} (gs-book-to-bytes-call.Learnt κs a) (λ z e. (z, e .1 .0 .now))
-gs-book-to-bytes-determined κs a = determined _ _ _ (λ z e p. both (p .0) (p .1))
+gs-book-to-bytes-determined κs a = determined _ _ _ (λ z e p. both (p .number) (p .cells))
 
 gs-book-from-bytes-determined : (κs : _) (a : _) → Determined {O = ℕ × List ℕ} (gs-book-from-bytes-call.Learnt κs a) (λ z e. (z, e .1 .0 .now))
-gs-book-from-bytes-determined κs a = determined _ _ _ (λ z e p. both (p .0) (p .1))
+gs-book-from-bytes-determined κs a = determined _ _ _ (λ z e p. both (p .number) (p .cells))
 
 gs-read-determined : (κs : _) (a : _) → Determined {O = ℕ × List ℕ} (gs-read-call.Learnt κs a) (λ z e. (z, e .1 .1 .0 .now))
-gs-read-determined κs a = determined _ _ _ (λ z e p. both (p .0) (p .1))
+gs-read-determined κs a = determined _ _ _ (λ z e p. both (p .number) (p .cells))
 
 gs-read-next-determined : (κs : _) (a : _) → Determined (gs-read-next-call.Learnt κs a) (λ z e. z)
 gs-read-next-determined κs a = determined _ _ _ (λ z e p. p)
 
 gs-write-determined : (κs : _) (a : _) → Determined {O = ℕ × List ℕ} (gs-write-call.Learnt κs a) (λ z e. (z, e .1 .1 .1 .1 .1 .0 .now))
-gs-write-determined κs a = determined _ _ _ (λ z e p. both (p .0) (p .1))
+gs-write-determined κs a = determined _ _ _ (λ z e p. both (p .number) (p .cells))

@@ -1,12 +1,12 @@
 -- What the functions below say, told of the outer names' arguments.
-use mathlib.Core.Path.{_≡_, refl, ap, _∙_}
+use mathlib.Core.Path.{_≡_, refl, ap, _∙_, subst}
 use native.Mathlib.Omega.{arith}
 use lib.ListN.{set}
 use borrow.Author.Tests.{eq-eqb, ne-eqb}
 use Rattle.rules.specs.Lists.{ℕ, Bool, cond, List, [], _∷_, length}
 use Rattle.rules.specs.declared.Hall.{Hall}
 use Rattle.rules.specs.declared.Entry.{Entry}
-use Rattle.rules.specs.Answers.{Answer}
+use Rattle.rules.specs.Answers.{Answer, Gives}
 use Rattle.rules.specs.Tape as paper
 use Rattle.rules.specs.Tape.{readAt}
 use Rattle.tape.specs.Reading.{reading, numberOf, entryIn, onPaper}
@@ -16,9 +16,8 @@ use Rattle.gingerstall.specs.Outer.{fieldsOf, readFields}
 
 -- an answer of the record that five arguments make
 pub of-entry : (answer : Entry → Answer) (e e′ : Entry) (n : ℕ) (cells : List ℕ) → e ≡ e′
-    → (n ≡ answer e .number) × (cells ≡ answer e .cells)
-    → (n ≡ answer e′ .number) × (cells ≡ answer e′ .cells)
-of-entry answer e e′ n cells is says = (says .0 ∙ ap (λ (x : Entry). answer x .number) is, says .1 ∙ ap (λ (x : Entry). answer x .cells) is)
+    → Gives (answer e) n cells → Gives (answer e′) n cells
+of-entry answer e e′ n cells is says = subst (λ (x : Entry). Gives (answer x) n cells) is says
 
 -- 0 for yes
 pub of-test : (r : ℕ) (t u : Bool) → r ≡ cond t 0 1 → t ≡ u → r ≡ cond u 0 1
@@ -35,9 +34,9 @@ five (v ∷ w ∷ x ∷ y ∷ z ∷ u ∷ us) a b c d e l = absurd (omega arith)
 
 -- ---- the reader
 pub no-fields : (h : Hall) (tape : List ℕ) (at : ℕ) (fields : List ℕ) → (length fields ≡ 5 → ⊥)
-    → (16 ≡ readFields h tape at fields .number) × (fields ≡ readFields h tape at fields .cells)
+    → Gives (readFields h tape at fields) 16 fields
 unfolding readFields
-no-fields h tape at fields n = rw (ne-eqb (length fields) 5 n) (refl, refl)
+no-fields h tape at fields n = rw (ne-eqb (length fields) 5 n) (record { number = refl; cells = refl })
 
 module _ (h : Hall) (tape : List ℕ) (at : ℕ) (r : Reading) (is : r ≡ reading (readAt h tape at)) where
   on-paper : onPaper r ≡ readAt h tape at
@@ -47,11 +46,11 @@ module _ (h : Hall) (tape : List ℕ) (at : ℕ) (r : Reading) (is : r ≡ readi
   next-place = ap (λ (x : paper.Reading). x .next) on-paper
 
   pub read-fields : (fields : List ℕ) → length fields ≡ 5 → (n : ℕ) (e : Entry) (new : List ℕ) → n ≡ numberOf (r .got) → e ≡ entryIn (r .got)
-      → new ≡ fieldsOf e
-      → (n ≡ readFields h tape at fields .number) × (new ≡ readFields h tape at fields .cells)
+      → new ≡ fieldsOf e → Gives (readFields h tape at fields) n new
   unfolding readFields
   read-fields fields l n e new number entry laid =
-      rw (eq-eqb (length fields) 5 l) (
-        number ∙ ap (λ (x : paper.Reading). x .number) on-paper,
-        laid ∙ ap fieldsOf (entry ∙ ap (λ (x : paper.Reading). x .entry) on-paper),
-      )
+      rw (eq-eqb (length fields) 5 l)
+      (record {
+        number = number ∙ ap (λ (x : paper.Reading). x .number) on-paper;
+        cells = laid ∙ ap fieldsOf (entry ∙ ap (λ (x : paper.Reading). x .entry) on-paper);
+      })

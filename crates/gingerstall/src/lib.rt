@@ -2,17 +2,19 @@
 // A slice is a pointer and a count of elements. Each promise is that of the function below it.
 ghost use mathlib.Core.Path.{_≡_};
 ghost use lib.ListN.{length};
+ghost use Rattle.rules.specs.Answers.{Gives};
 ghost use Rattle.rules.specs.Lists.{cond, []};
 ghost use Rattle.rules.specs.Hall.{mainHall};
 ghost use Rattle.rules.specs.Sound.{sound};
 ghost use Rattle.rules.specs.Bytes.{makeEmpty, writeBook, readBook};
 ghost use Rattle.rules.specs.Tape.{readAt, writeEntry};
 ghost use Rattle.rules.specs.Form.{plain};
-ghost use Rattle.rules.specs.Verdicts.{step, run};
+ghost use Rattle.rules.specs.Verdicts.{step, run, RunGives};
 ghost use Rattle.rules.specs.Slips.{slip, slipSound, openInto};
 ghost use Rattle.tape.specs.Reading.{numberOf, entryIn};
 ghost use Rattle.gingerstall.specs.Outer.{entryFrom, fieldsOf, readFields};
-use lines::Form;
+use book::forms::Form;
+use book::writing;
 use rules::Entry;
 use tape::Cursor;
 use tape::Got;
@@ -33,9 +35,9 @@ fn entry(kind: u8, bench: u8, customer: u8, zero: u8, amount: u32) -> Entry
 
 #[no_mangle]
 pub extern "C" fn gs_empty(book: &mut [u32]) -> u8
-    ensures { λ r. ⌜ (r ≡ makeEmpty mainHall (now (book .entry)) .number) × (now (book .exit) ≡ makeEmpty mainHall (now (book .entry)) .cells) ⌝ }
+    ensures { λ r. ⌜ Gives (makeEmpty mainHall (now (book .entry))) r (now (book .exit)) ⌝ }
 {
-    writer::make_empty(book)
+    writing::make_empty(book)
 }
 
 // ---- is it sound? 0 for yes, as a verdict would be
@@ -72,7 +74,7 @@ pub extern "C" fn gs_step(
     zero: u8,
     amount: u32,
 ) -> u8
-    ensures { λ r. ⌜ (r ≡ step plain mainHall (now (tokens .entry)) (now (book .entry)) (entryFrom kind bench customer zero amount) .number) × (now (book .exit) ≡ step plain mainHall (now (tokens .entry)) (now (book .entry)) (entryFrom kind bench customer zero amount) .cells) ⌝ }
+    ensures { λ r. ⌜ Gives (step plain mainHall (now (tokens .entry)) (now (book .entry)) (entryFrom kind bench customer zero amount)) r (now (book .exit)) ⌝ }
 {
     desk::step(
         Form::Plain,
@@ -92,7 +94,7 @@ pub extern "C" fn gs_slip_step(
     zero: u8,
     amount: u32,
 ) -> u8
-    ensures { λ r. ⌜ (r ≡ step slip mainHall (now (tokens .entry)) (now (book .entry)) (entryFrom kind bench customer zero amount) .number) × (now (book .exit) ≡ step slip mainHall (now (tokens .entry)) (now (book .entry)) (entryFrom kind bench customer zero amount) .cells) ⌝ }
+    ensures { λ r. ⌜ Gives (step slip mainHall (now (tokens .entry)) (now (book .entry)) (entryFrom kind bench customer zero amount)) r (now (book .exit)) ⌝ }
 {
     desk::step(
         Form::Slip,
@@ -106,7 +108,7 @@ pub extern "C" fn gs_slip_step(
 
 #[no_mangle]
 pub extern "C" fn gs_run(tokens: &[u32], book: &mut [u32], tape: &[u8], verdicts: &mut [u8]) -> u8
-    ensures { λ r. ⌜ (r ≡ run plain mainHall (now (tokens .entry)) (now (book .entry)) (now (tape .entry)) (now (verdicts .entry)) .answer) × (now (book .exit) ≡ run plain mainHall (now (tokens .entry)) (now (book .entry)) (now (tape .entry)) (now (verdicts .entry)) .book) × (now (verdicts .exit) ≡ run plain mainHall (now (tokens .entry)) (now (book .entry)) (now (tape .entry)) (now (verdicts .entry)) .verdicts) ⌝ }
+    ensures { λ r. ⌜ RunGives (run plain mainHall (now (tokens .entry)) (now (book .entry)) (now (tape .entry)) (now (verdicts .entry))) r (now (book .exit)) (now (verdicts .exit)) ⌝ }
 {
     desk::run(Form::Plain, tokens, book, tape, verdicts)
 }
@@ -118,14 +120,14 @@ pub extern "C" fn gs_slip_run(
     tape: &[u8],
     verdicts: &mut [u8],
 ) -> u8
-    ensures { λ r. ⌜ (r ≡ run slip mainHall (now (tokens .entry)) (now (book .entry)) (now (tape .entry)) (now (verdicts .entry)) .answer) × (now (book .exit) ≡ run slip mainHall (now (tokens .entry)) (now (book .entry)) (now (tape .entry)) (now (verdicts .entry)) .book) × (now (verdicts .exit) ≡ run slip mainHall (now (tokens .entry)) (now (book .entry)) (now (tape .entry)) (now (verdicts .entry)) .verdicts) ⌝ }
+    ensures { λ r. ⌜ RunGives (run slip mainHall (now (tokens .entry)) (now (book .entry)) (now (tape .entry)) (now (verdicts .entry))) r (now (book .exit)) (now (verdicts .exit)) ⌝ }
 {
     desk::run(Form::Slip, tokens, book, tape, verdicts)
 }
 
 #[no_mangle]
 pub extern "C" fn gs_slip_open(tokens: &[u32], slips: &[u32], plain: &mut [u32]) -> u8
-    ensures { λ r. ⌜ (r ≡ openInto mainHall (now (tokens .entry)) (now (slips .entry)) (now (plain .entry)) .number) × (now (plain .exit) ≡ openInto mainHall (now (tokens .entry)) (now (slips .entry)) (now (plain .entry)) .cells) ⌝ }
+    ensures { λ r. ⌜ Gives (openInto mainHall (now (tokens .entry)) (now (slips .entry)) (now (plain .entry))) r (now (plain .exit)) ⌝ }
 {
     slips::open_into(tokens, slips, plain)
 }
@@ -134,14 +136,14 @@ pub extern "C" fn gs_slip_open(tokens: &[u32], slips: &[u32], plain: &mut [u32])
 
 #[no_mangle]
 pub extern "C" fn gs_book_to_bytes(book: &[u32], bytes: &mut [u8]) -> u8
-    ensures { λ r. ⌜ (r ≡ writeBook mainHall (now (book .entry)) (now (bytes .entry)) .number) × (now (bytes .exit) ≡ writeBook mainHall (now (book .entry)) (now (bytes .entry)) .cells) ⌝ }
+    ensures { λ r. ⌜ Gives (writeBook mainHall (now (book .entry)) (now (bytes .entry))) r (now (bytes .exit)) ⌝ }
 {
     filing::write_book(book, bytes)
 }
 
 #[no_mangle]
 pub extern "C" fn gs_book_from_bytes(bytes: &[u8], book: &mut [u32]) -> u8
-    ensures { λ r. ⌜ (r ≡ readBook mainHall (now (bytes .entry)) (now (book .entry)) .number) × (now (book .exit) ≡ readBook mainHall (now (bytes .entry)) (now (book .entry)) .cells) ⌝ }
+    ensures { λ r. ⌜ Gives (readBook mainHall (now (bytes .entry)) (now (book .entry))) r (now (book .exit)) ⌝ }
 {
     filing::read_book(bytes, book)
 }
@@ -182,7 +184,7 @@ fn put_fields(fields: &mut [u32], e: Entry)
 // The record at a place, its five fields laid into the lent ones, also where it is refused.
 #[no_mangle]
 pub extern "C" fn gs_read(tape: &[u8], at: usize, fields: &mut [u32]) -> u8
-    ensures { λ r. ⌜ (r ≡ readFields mainHall (now (tape .entry)) at (now (fields .entry)) .number) × (now (fields .exit) ≡ readFields mainHall (now (tape .entry)) at (now (fields .entry)) .cells) ⌝ }
+    ensures { λ r. ⌜ Gives (readFields mainHall (now (tape .entry)) at (now (fields .entry))) r (now (fields .exit)) ⌝ }
 {
     if fields.len() != 5 {
         return 16;
@@ -212,7 +214,7 @@ pub extern "C" fn gs_write(
     amount: u32,
     part: &mut [u8],
 ) -> u8
-    ensures { λ r. ⌜ (r ≡ writeEntry mainHall (entryFrom kind bench customer zero amount) (now (part .entry)) .number) × (now (part .exit) ≡ writeEntry mainHall (entryFrom kind bench customer zero amount) (now (part .entry)) .cells) ⌝ }
+    ensures { λ r. ⌜ Gives (writeEntry mainHall (entryFrom kind bench customer zero amount) (now (part .entry))) r (now (part .exit)) ⌝ }
 {
     tape::write(book::MAIN, entry(kind, bench, customer, zero, amount), part)
 }

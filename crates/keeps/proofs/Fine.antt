@@ -6,17 +6,17 @@ use native.Mathlib.Omega.{arith}
 use lib.Seq.{drop-append-seam}
 use borrow.Author.Tests.{le-leb}
 use Rattle.rules.specs.declared.Hall.{Hall}
-use Rattle.rules.specs.Lists.{ℕ, _+_, _*_, _-_, min, true, List, [], _∷_, length, take, every, occ, allDifferent, allZero, sumOf}
+use Rattle.rules.specs.Lists.{ℕ, _+_, _*_, _-_, min, true, List, [], _∷_, length, take, occ, allDifferent, allZero, sumOf}
 use Rattle.rules.specs.Hall.{mostHeld, mostSales, mostBudget, Place, Desk, Carnet, View, BenchView, Till, Line, number, spendable, views, customerViews}
-use Rattle.rules.specs.Records.{inUse, amount, count, sales, held, filled, made, recordAt}
-use Rattle.rules.specs.Sound.{shaped, deskGood, bare, placeGood, recordGood, sound}
+use Rattle.rules.specs.Records.{inUse, amount, count, sales, held, filled, made, withAmount, recordAt}
+use Rattle.rules.specs.Sound.{shaped, deskGood, bare, placeGood, recordGood, sound, total}
 use Rattle.rules.specs.Steps.{dealt, fresh, Change, _≔_, putAll}
-use Rattle.rules.proofs.Tests.{below, true-and}
+use Rattle.rules.proofs.Tests.{below, parts, true-and}
 use Rattle.laws.proofs.Sums.{sum-none}
 use Rattle.laws.proofs.Zeros.{zeros-zero}
-use Rattle.laws.proofs.Made.{made-amount, made-count, made-sales, made-held}
+use Rattle.laws.proofs.Made.{made-amount, made-count, made-sales, made-held, with-rest, amount-use, amount-is, amount-count, amount-sales, amount-held}
 use Rattle.laws.proofs.Reflect.{Parties, Book, facts-sound}
-use Rattle.laws.proofs.Asked.{record-test, place-desk, place-carnet, place-view, place-till, place-line, line-test}
+use Rattle.laws.proofs.Asked.{record-shaped, record-dealt, record-place, record-test, Shaped, shaped-facts, place-desk, place-carnet, place-view, place-till, place-line, line-test}
 use Rattle.laws.proofs.Books.{Known, nowhere, fresh-once, record-more}
 use Rattle.laws.proofs.Places.{Inside, spends, sees, seesCustomer, spends-group, sees-group, seesCustomer-group, Same, Differ, apart-or-same}
 use Rattle.rules.proofs.Named.{Each}
@@ -62,10 +62,28 @@ module _ (h : Hall) (ts : List ℕ) (d : ℕ) (xs : List ℕ) (short : length xs
         both = rw (made-sales 0 s xs, made-count 0 s xs) both;
       })
 
-pub new-desk : (h : Hall) (ts : List ℕ) (d : ℕ) → d ≤ length ts → New h ts d Desk (made d 0 [])
-unfolding deskGood every made filled inUse amount
-new-desk h ts d l =
-    new h ts d [] (omega arith) refl 0 d 0 (place-desk h ts 0 (made d 0 []) refl ∙ true-and _ _ (le-leb _ _ l) refl)
+-- a good record in use stays good with another amount: a view with any, the desk's own with one that the list has
+module _ (h : Hall) (ts : List ℕ) (d k a : ℕ) (r : List ℕ) (there : inUse r ≡ 1) (good : recordGood h ts d k r ≡ true) where
+  other-amount : placeGood h ts k (withAmount a r) ≡ true → recordGood h ts d k (withAmount a r) ≡ true
+  unfolding shaped
+  other-amount p =
+      let s : Shaped r = shaped-facts r (record-shaped h ts d k r good) in
+      record-test h ts d k (withAmount a r)
+      (rw (amount-use a r, there, amount-count a r, with-rest 1 a r 4 (omega arith)) (true-and _ _ (le-leb _ _ (s .short)) (s .past)))
+      (rw (amount-held a r) (record-dealt h ts d k r good)) p
+
+  pub view-amount : number h (View 0) ≤ k → k < number h (Till 0) → recordGood h ts d k (withAmount a r) ≡ true
+  view-amount l u =
+      other-amount
+      (place-view h ts k (withAmount a r) l u ∙ rw (amount-sales a r) (sym (place-view h ts k r l u) ∙ record-place h ts d k r good))
+
+  pub desk-amount : k ≡ 0 → 1 < length r → a ≤ length ts → recordGood h ts d k (withAmount a r) ≡ true
+  unfolding deskGood
+  desk-amount z l few =
+      let g : deskGood ts r ≡ true = sym (place-desk h ts k r z) ∙ record-place h ts d k r good in
+      other-amount
+      (place-desk h ts k (withAmount a r) z
+      ∙ rw (amount-use a r, there, amount-is a r l, with-rest 1 a r 2 (omega arith)) (true-and _ _ (le-leb _ _ few) (search parts)))
 
 -- ---- changes that take no record into use and none out of it
 module _ (h : Hall) (old : Place → List ℕ) where
@@ -86,16 +104,18 @@ module _ (h : Hall) (old : Place → List ℕ) where
         lines = λ m c l u. omega (arith, t .lines m c l u, k (Line m c) (l, u), k (Carnet c) u, k (Till m) l);
       }
 
--- ---- the changes of a granted step: n tokens are dealt by it, d after it
-pub record Fine (h : Hall) (ts b : List ℕ) (d n : ℕ) (cs : List Change) : Type 0 where
+-- ---- the changes of a granted step: n tokens are dealt by it, d after it, and it brings in so much money
+pub record Fine (h : Hall) (ts b : List ℕ) (d n brought : ℕ) (cs : List Change) : Type 0 where
   pub deals : d ≡ dealt b + n
   pub desk : amount (lookup cs (at h b) Desk) ≡ d
   pub new : Each (New h ts d) cs
   pub together : Parties h (λ p. inUse (lookup cs (at h b) p))
   pub spent : (t : ℕ) → gain spends (λ r. occ t (held r)) cs ≤ loss spends (λ r. occ t (held r)) (at h b) cs + occ t (fresh ts b n)
   pub viewed : (t : ℕ) → gain sees (λ r. occ t (held r)) cs ≤ loss sees (λ r. occ t (held r)) (at h b) cs + occ t (fresh ts b n)
-  pub money : gain sees amount cs + gain seesCustomer count cs + mostBudget * loss seesCustomer inUse (at h b) cs
-      ≤ loss sees amount (at h b) cs + loss seesCustomer count (at h b) cs + mostBudget * gain seesCustomer inUse cs
+  pub money : gain sees amount cs + gain seesCustomer count cs ≡ loss sees amount (at h b) cs + loss seesCustomer count (at h b) cs + brought
+  -- what the hall then has is within what the customers who have joined may bring
+  pub within : total h (λ k. recordAt k b) + brought + mostBudget * loss seesCustomer inUse (at h b) cs
+      ≤ mostBudget * sumOf (λ k. inUse (recordAt k b)) (customerViews h) + mostBudget * gain seesCustomer inUse cs
 
 module _ (h : Hall) (ts b : List ℕ) (ok : Book h ts b) where
   -- a sum in which old tokens go and fresh ones come
@@ -109,8 +129,19 @@ module _ (h : Hall) (ts b : List ℕ) (ok : Book h ts b) where
       (λ (p : occ t (fresh ts b n) ≤ 0). omega arith)
       (below 0 (occ t (fresh ts b n)))
 
-  pub fine-keeps : (d n : ℕ) (cs : List Change) → Each (Fit h) cs → apart cs ≡ true → Fine h ts b d n cs → sound h ts (putAll h cs b) ≡ true
-  fine-keeps d n cs fits apart fine =
+  -- the money after a granted step, to the last
+  pub fine-money : (d n brought : ℕ) (cs : List Change) → Each (Fit h) cs → apart cs ≡ true → Fine h ts b d n brought cs
+      → total h (λ k. recordAt k (putAll h cs b)) ≡ total h (λ k. recordAt k b) + brought
+  fine-money d n brought cs fits apart fine =
+      omega (
+        arith,
+        all-sum h (views h) sees (sees-group h) amount cs b (ok .0) fits apart,
+        all-sum h (customerViews h) seesCustomer (seesCustomer-group h) count cs b (ok .0) fits apart,
+        fine .money,
+      )
+
+  pub fine-keeps : (d n brought : ℕ) (cs : List Change) → Each (Fit h) cs → apart cs ≡ true → Fine h ts b d n brought cs → sound h ts (putAll h cs b) ≡ true
+  fine-keeps d n brought cs fits apart fine =
       let b′ : List ℕ = putAll h cs b in
       let now : (q : Place) → Inside h q → at h (putAll h cs b) q ≡ lookup cs (at h b) q = all-at h cs b (ok .0) fits apart in
       facts-sound h ts (putAll h cs b) (
@@ -134,11 +165,9 @@ module _ (h : Hall) (ts b : List ℕ) (ok : Book h ts b) where
           money =
               omega (
                 arith,
-                all-sum h (views h) sees (sees-group h) amount cs b (ok .0) fits apart,
-                all-sum h (customerViews h) seesCustomer (seesCustomer-group h) count cs b (ok .0) fits apart,
+                fine-money d n brought cs fits apart fine,
                 all-sum h (customerViews h) seesCustomer (seesCustomer-group h) inUse cs b (ok .0) fits apart,
-                fine .money,
-                ok .1 .money,
+                fine .within,
               );
         },
       )

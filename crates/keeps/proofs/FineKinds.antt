@@ -7,21 +7,21 @@ use lib.ListN.{length-append, length-take, length-drop}
 use Rattle.rules.specs.declared.Hall.{Hall}
 use Rattle.rules.specs.declared.Entry.{Entry}
 use Rattle.rules.specs.Lists.{ℕ, _+_, _-_, min, Bool, true, false, cond, _&&_, eqb, List, [], _∷_, _++_, length, take, drop, every, occ, isIn, allDifferent, without}
-use Rattle.rules.specs.Hall.{mostHeld, mostSales, mostBudget, Place, Carnet, View, BenchView, Till, Line, number, spendable}
-use Rattle.rules.specs.Records.{inUse, amount, count, sales, held, filled, made, recordAt}
+use Rattle.rules.specs.Hall.{mostHeld, mostSales, mostBudget, Place, Desk, Carnet, View, BenchView, Till, Line, number, spendable, views}
+use Rattle.rules.specs.Records.{inUse, amount, count, sales, held, filled, made, withAmount, recordAt}
 use Rattle.rules.specs.Form.{plain}
-use Rattle.rules.specs.Steps.{dealt, left, fresh, _≔_, joining, dealing, theCarnet, theView, theBenchView, theTill, theLine, updating, stocking, soldLine, selling, authenticating, clearing}
+use Rattle.rules.specs.Steps.{dealt, left, fresh, _≔_, joining, dealing, theCarnet, theView, theBenchView, theTill, theLine, updating, stocking, soldLine, selling, authenticating, settling, clearing}
 use Rattle.laws.proofs.Occurrences.{occ-append, occ-split, different-once, once-different}
 use Rattle.laws.proofs.Sums.{part-of-sum}
 use Rattle.laws.proofs.Tokens.{every-append, every-take, every-drop, every-without, without-occ, without-length}
-use Rattle.laws.proofs.Made.{made-use, made-amount, made-count, made-held}
+use Rattle.laws.proofs.Made.{made-use, made-amount, made-count, made-held, amount-use, amount-is, amount-held}
 use Rattle.laws.proofs.Reflect.{Parties, Book}
-use Rattle.laws.proofs.Asked.{LineGood}
-use Rattle.laws.proofs.Books.{Known, held-few, full-at, facts-at, known-at, dealt-few, desk-used, till-different, line-at, fresh-different, fresh-known, fresh-long}
-use Rattle.laws.proofs.Places.{Inside, inside-below, spends-group, benchOf, customerOf, Same, Differ, apart-or-same}
+use Rattle.laws.proofs.Asked.{record-shaped, no-use, LineGood}
+use Rattle.laws.proofs.Books.{Known, held-few, full-at, facts-at, known-at, dealt-few, desk-used, till-different, line-at, fresh-different, fresh-known, fresh-long, record-more}
+use Rattle.laws.proofs.Places.{Inside, inside-below, spends-group, sees-group, benchOf, customerOf, Same, Differ, apart-or-same}
 use Rattle.rules.proofs.Named.{Each}
-use Rattle.laws.proofs.Changes.{at, Fit}
-use Rattle.keeps.proofs.Fine.{new-carnet, new-view, new-bench, new-till, new-line, new-desk, together-kept, Fine}
+use Rattle.laws.proofs.Changes.{at, Fit, at-long}
+use Rattle.keeps.proofs.Fine.{New, new-carnet, new-view, new-bench, new-till, new-line, view-amount, desk-amount, together-kept, Fine}
 
 -- a record in its place or another's: in use alike, and in use where it was
 cond-same : (t : Bool) (r r′ x x′ : List ℕ) → inUse r ≡ inUse r′ → inUse x ≡ inUse x′ → inUse (cond t r x) ≡ inUse (cond t r′ x′)
@@ -58,9 +58,23 @@ module _ (h : Hall) (ts b : List ℕ) (e : Entry) (ok : Book h ts b) where
   flag : (p : Place) → Inside h p → used p ≤ 1
   flag p i = facts-at h ts b ok (number h p) (inside-below h p i) .flag
 
-  pub join-customer-fine : c < h .customers → used (Carnet c) ≡ 0 → e .amount ≤ mostBudget → Fine h ts b (dealt b) 0 (joining (Carnet c) (View c) (e .amount))
+  long : (p : Place) → Inside h p → 1 < length (at h b p)
+  long p i = omega (arith, at-long h b (ok .0) p i)
+
+  -- the desk's record, with n more tokens dealt
+  new-desk : (n : ℕ) → dealt b + n ≤ length ts → New h ts (dealt b + n) Desk (withAmount (dealt b + n) (at h b Desk))
+  new-desk n l =
+      desk-amount h ts (dealt b + n) 0 (dealt b + n) (at h b Desk) (desk-used h ts b ok)
+      (record-more h ts (dealt b) n 0 (at h b Desk) (ok .1 .each 0 (omega arith))) refl (long Desk tt) l
+
+  -- a record that isn't in use
+  unused : (p : Place) → Inside h p → used p ≡ 0 → (amount (at h b p) ≡ 0) × (count (at h b p) ≡ 0)
+  unused p i = no-use (at h b p) (record-shaped h ts (dealt b) (number h p) (at h b p) (ok .1 .each (number h p) (inside-below h p i)))
+
+  pub join-customer-fine : c < h .customers → used (Carnet c) ≡ 0 → e .amount ≤ mostBudget → Fine h ts b (dealt b) 0 (e .amount) (joining (Carnet c) (View c) (e .amount))
   unfolding joining occ every
   join-customer-fine i fresh small =
+      let none = unused (View c) i (sym (old .customers c i) ∙ fresh) in
       record {
         deals = omega arith;
         desk = refl;
@@ -73,12 +87,14 @@ module _ (h : Hall) (ts b : List ℕ) (e : Entry) (ok : Book h ts b) where
             };
         spent = λ t. simp made-held (omega arith);
         viewed = λ t. simp made-held (omega arith);
-        money = simp (made-amount, made-count, made-use) (omega (arith, old .customers c i));
+        money = simp (made-amount, made-count) (omega (arith, none));
+        within = simp made-use (omega (arith, ok .1 .money, old .customers c i));
       }
 
-  pub join-bench-fine : m < h .benches → Fine h ts b (dealt b) 0 (joining (Till m) (BenchView m) 0)
+  pub join-bench-fine : m < h .benches → used (Till m) ≡ 0 → Fine h ts b (dealt b) 0 0 (joining (Till m) (BenchView m) 0)
   unfolding joining occ every allDifferent
-  join-bench-fine i =
+  join-bench-fine i fresh =
+      let none = unused (BenchView m) i (sym (old .benches m i) ∙ fresh) in
       record {
         deals = omega arith;
         desk = refl;
@@ -91,10 +107,11 @@ module _ (h : Hall) (ts b : List ℕ) (e : Entry) (ok : Book h ts b) where
             };
         spent = λ t. omega arith;
         viewed = λ t. simp made-held (omega arith);
-        money = simp made-amount (omega arith);
+        money = simp made-amount (omega (arith, none));
+        within = omega (arith, ok .1 .money);
       }
 
-  pub open-line-fine : m < h .benches → c < h .customers → used (Carnet c) ≡ 1 → used (Till m) ≡ 1 → Fine h ts b (dealt b) 0 ((Line m c ≔ made 0 0 []) ∷ [])
+  pub open-line-fine : m < h .benches → c < h .customers → used (Carnet c) ≡ 1 → used (Till m) ≡ 1 → Fine h ts b (dealt b) 0 0 ((Line m c ≔ made 0 0 []) ∷ [])
   unfolding occ every
   open-line-fine im ic hasC hasT =
       record {
@@ -119,12 +136,13 @@ module _ (h : Hall) (ts b : List ℕ) (e : Entry) (ok : Book h ts b) where
         spent = λ t. simp made-held (omega arith);
         viewed = λ t. omega arith;
         money = omega arith;
+        within = omega (arith, ok .1 .money);
       }
 
   pub update-fine : c < h .customers → used (View c) ≡ 1 → e .amount ≤ amount (theView h b e)
       → count (theView h b e) + e .amount ≤ mostHeld → count (theView h b e) + e .amount ≤ left ts b
       → Each (Fit h) (updating h b e ts)
-      → Fine h ts b (dealt b + (count (theView h b e) + e .amount)) (count (theView h b e) + e .amount) (updating h b e ts)
+      → Fine h ts b (dealt b + (count (theView h b e) + e .amount)) (count (theView h b e) + e .amount) 0 (updating h b e ts)
   unfolding updating dealing
   update-fine i there budget room enough fits =
       let n : ℕ = count (theView h b e) + e .amount in
@@ -133,25 +151,26 @@ module _ (h : Hall) (ts b : List ℕ) (e : Entry) (ok : Book h ts b) where
       let size : length new ≡ n = fresh-long ts b n enough in
       record {
         deals = refl;
-        desk = made-amount d 0 [];
+        desk = amount-is d (at h b Desk) (long Desk tt);
         new = (
           new-carnet h ts d new (omega arith) (fresh-known h ts b ok n) c i,
           (
             new-view h ts d new (omega arith) (fresh-known h ts b ok n) c (amount (theView h b e) - e .amount) i,
-            (new-desk h ts d (omega (arith, dealt-few h ts b ok)), tt),
+            (new-desk n (omega (arith, dealt-few h ts b ok)), tt),
           ),
         );
         together =
             together-kept h (at h b) (updating h b e ts) fits old
-            (simp made-use (sym (old .customers c i ∙ there)), (simp made-use (sym there), (simp made-use (sym (desk-used h ts b ok)), tt)));
+            (simp made-use (sym (old .customers c i ∙ there)), (simp made-use (sym there), (amount-use d (at h b Desk), tt)));
         spent = λ t. simp made-held (omega arith);
         viewed = λ t. simp made-held (omega arith);
-        money = simp (made-amount, made-count, made-use) (omega arith);
+        money = simp (made-amount, made-count) (omega arith);
+        within = simp made-use (omega (arith, ok .1 .money));
       }
 
   pub stock-fine : m < h .benches → used (BenchView m) ≡ 1 → e .amount ≤ mostHeld
       → Each (Fit h) (stocking h b e ts)
-      → Fine h ts b (dealt b + min (e .amount) (left ts b)) (min (e .amount) (left ts b)) (stocking h b e ts)
+      → Fine h ts b (dealt b + min (e .amount) (left ts b)) (min (e .amount) (left ts b)) 0 (stocking h b e ts)
   unfolding stocking dealing
   stock-fine i there small fits =
       let n : ℕ = min (e .amount) (left ts b) in
@@ -160,23 +179,24 @@ module _ (h : Hall) (ts b : List ℕ) (e : Entry) (ok : Book h ts b) where
       let size : length new ≡ n = fresh-long ts b n (omega arith) in
       record {
         deals = refl;
-        desk = made-amount d 0 [];
+        desk = amount-is d (at h b Desk) (long Desk tt);
         new = (
           new-till h ts d new (omega arith) (fresh-known h ts b ok n) m i (fresh-different h ts b ok n),
           (
             new-bench h ts d new (omega arith) (fresh-known h ts b ok n) m (amount (theBenchView h b e)) i,
-            (new-desk h ts d (omega (arith, dealt-few h ts b ok)), tt),
+            (new-desk n (omega (arith, dealt-few h ts b ok)), tt),
           ),
         );
         together =
             together-kept h (at h b) (stocking h b e ts) fits old
-            (simp made-use (sym (old .benches m i ∙ there)), (simp made-use (sym there), (simp made-use (sym (desk-used h ts b ok)), tt)));
+            (simp made-use (sym (old .benches m i ∙ there)), (simp made-use (sym there), (amount-use d (at h b Desk), tt)));
         spent = λ t. omega arith;
         viewed = λ t. simp made-held (omega arith);
         money = simp made-amount (omega arith);
+        within = omega (arith, ok .1 .money);
       }
 
-  pub authenticate-fine : m < h .benches → used (BenchView m) ≡ 1 → Each (Fit h) (authenticating h b e) → Fine h ts b (dealt b) 0 (authenticating h b e)
+  pub authenticate-fine : m < h .benches → used (BenchView m) ≡ 1 → Each (Fit h) (authenticating h b e) → Fine h ts b (dealt b) 0 0 (authenticating h b e)
   unfolding authenticating occ
   authenticate-fine i there fits =
       let T : List ℕ = held (theTill h b e) in
@@ -198,6 +218,7 @@ module _ (h : Hall) (ts b : List ℕ) (e : Entry) (ok : Book h ts b) where
         spent = λ t. omega arith;
         viewed = λ t. simp made-held (omega (arith, occ-split t 1 B));
         money = simp made-amount (omega arith);
+        within = omega (arith, ok .1 .money);
       }
 
   -- the line after a sale is made of the tokens sold and the older ones
@@ -209,7 +230,7 @@ module _ (h : Hall) (ts b : List ℕ) (e : Entry) (ok : Book h ts b) where
 
   pub sell-fine : m < h .benches → c < h .customers → used (Carnet c) ≡ 1 → used (Line m c) ≡ 1
       → e .amount ≤ count (theCarnet h b e) → count (theLine h b e) + e .amount ≤ mostHeld → sales (theLine h b e) + min (e .amount) 1 ≤ mostSales
-      → Each (Fit h) (selling h b e plain) → Fine h ts b (dealt b) 0 (selling h b e plain)
+      → Each (Fit h) (selling h b e plain) → Fine h ts b (dealt b) 0 0 (selling h b e plain)
   unfolding selling occ
   sell-fine im ic hasC hasL enough room few-sales fits =
       let C : List ℕ = held (theCarnet h b e) in
@@ -236,12 +257,13 @@ module _ (h : Hall) (ts b : List ℕ) (e : Entry) (ok : Book h ts b) where
         spent = λ t. rw q (simp (made-held, occ-append) (omega (arith, occ-split t (e .amount) C)));
         viewed = λ t. omega arith;
         money = omega arith;
+        within = omega (arith, ok .1 .money);
       }
 
   pub clear-fine : m < h .benches → c < h .customers → used (View c) ≡ 1 → used (BenchView m) ≡ 1 → used (Line m c) ≡ 1
       → every (λ t. isIn t (held (theView h b e))) (held (theLine h b e)) ≡ true
-      → Each (Fit h) (clearing h b e plain ts) → Fine h ts b (dealt b) 0 (clearing h b e plain ts)
-  unfolding clearing occ every
+      → Each (Fit h) (clearing h b e plain ts) → Fine h ts b (dealt b) 0 0 (clearing h b e plain ts)
+  unfolding settling clearing occ every
   clear-fine im ic hasV hasB hasL lives fits =
       let X : List ℕ = held (theLine h b e) in
       let Y : List ℕ = held (theView h b e) in
@@ -251,22 +273,31 @@ module _ (h : Hall) (ts b : List ℕ) (e : Entry) (ok : Book h ts b) where
         part-of-sum (λ k. occ t (held (recordAt k b))) (number h (Line m c)) (spendable h) (omega (arith, spends-group h (Line m c) (im, ic))),
         ok .1 .spent t,
       )) in
-      let paid : length (without X Y) + count (theLine h b e) ≤ count (theView h b e) =
-      omega (arith, without-length X Y different lives, full (Line m c) (im, ic), full (View c) ic) in
+      let once : (t : ℕ) → occ t Y ≤ 1 =
+      λ t. omega (
+        arith,
+        part-of-sum (λ k. occ t (held (recordAt k b))) (number h (View c)) (views h) (omega (arith, sees-group h (View c) ic)),
+        ok .1 .viewed t,
+      ) in
+      let paid : length (without X Y) + length X ≡ count (theView h b e) =
+      omega (arith, without-length X Y different lives once, full (View c) ic) in
+      let balance : amount (withAmount (amount (theBenchView h b e) + length X) (theBenchView h b e)) ≡ amount (theBenchView h b e) + length X =
+      amount-is _ (theBenchView h b e) (long (BenchView m) im) in
       record {
         deals = omega arith;
         desk = refl;
         new = (
           new-view h ts (dealt b) (without X Y) (omega (arith, full (View c) ic, few (View c))) (every-without _ X Y (known (View c) ic)) c (amount (theView h b e)) ic,
           (
-            new-bench h ts (dealt b) (held (theBenchView h b e)) (few (BenchView m)) (known (BenchView m) im) m (amount (theBenchView h b e) + count (theLine h b e)) im,
+            view-amount h ts (dealt b) (number h (BenchView m)) _ (theBenchView h b e) hasB (ok .1 .each (number h (BenchView m)) (inside-below h (BenchView m) im)) (omega arith) (omega arith),
             (new-line h ts (dealt b) [] (omega arith) refl m c 0 (omega arith) (omega arith) refl, tt),
           ),
         );
         together =
             together-kept h (at h b) (clearing h b e plain ts) fits old
-            (simp made-use (sym hasV), (simp made-use (sym hasB), (simp made-use (sym hasL), tt)));
+            (simp made-use (sym hasV), (amount-use _ (theBenchView h b e), (simp made-use (sym hasL), tt)));
         spent = λ t. simp made-held (omega arith);
-        viewed = λ t. simp made-held (omega (arith, without-occ t X Y));
-        money = simp (made-amount, made-count, made-use) (omega arith);
+        viewed = λ t. simp (made-held, amount-held) (omega (arith, without-occ t X Y));
+        money = simp (made-amount, made-count, balance) (omega arith);
+        within = simp made-use (omega (arith, ok .1 .money));
       }

@@ -1,30 +1,43 @@
 -- A granted step changes whole records inside the hall, all apart.
-use mathlib.Core.Path.{_≡_, refl, sym, subst}
+use mathlib.Core.Path.{_≡_, refl, sym, ap, _∙_, subst}
 use Prim.Native.Nat.{_≤_, _<_}
 use native.Mathlib.Omega.{arith}
 use lib.ListN.{length-append, length-take, length-drop}
 use Rattle.rules.specs.declared.Hall.{Hall}
 use Rattle.rules.specs.declared.Entry.{Entry}
-use Rattle.rules.specs.Lists.{ℕ, _*_, min, true, List, [], _++_, length, take, drop, without}
+use Rattle.rules.specs.Lists.{ℕ, _*_, min, true, List, [], _++_, length, take, drop, occ, without}
 use Rattle.rules.specs.Hall.{mostHeld, Place, Desk, Carnet, View, BenchView, Till, Line, number, records}
-use Rattle.rules.specs.Records.{words, held, made, recordAt}
-use Rattle.rules.specs.Tape.{Sell, kindOf, usesBench, usesCustomer}
+use Rattle.rules.specs.Records.{words, held, made, withAmount, recordAt}
+use Rattle.rules.specs.Tape.{Sell, Clear, kindOf, usesBench, usesCustomer}
 use Rattle.rules.specs.Form.{Form, plain}
-use Rattle.rules.specs.Steps.{left, fresh, joining, dealing, updating, stocking, soldLine, selling, authenticating, clearing, changes, theCarnet, theView, theLine}
+use Rattle.rules.specs.Steps.{left, fresh, joining, dealing, updating, stocking, soldLine, selling, authenticating, settling, clearing, changes, theCarnet, theView, theLine}
 use Rattle.rules.specs.Verdicts.{verdict}
 use Rattle.laws.proofs.Tokens.{without-short}
-use Rattle.laws.proofs.Made.{filled-long, made-long}
+use Rattle.laws.proofs.Made.{filled-long, made-long, with-long}
 use Rattle.laws.proofs.Reflect.{sound-facts}
 use Rattle.laws.proofs.Books.{held-few}
 use Rattle.laws.proofs.Places.{Inside}
 use Rattle.rules.proofs.Named.{Each, Named, changes-named}
-use Rattle.laws.proofs.Changes.{each-both, Fit, apart}
-use Rattle.rules.proofs.Granted.{kinds, kind-from, kind-to, bench-inside, customer-inside, stock-few, update-room, sell-room}
+use Rattle.laws.proofs.Changes.{at, each-both, Fit, apart, at-long}
+use Rattle.rules.proofs.ByKind.{IsKind, by-kind}
+use Rattle.rules.proofs.Granted.{granted-good, granted-kind, bench-inside, customer-inside, stock-few, update-room, sell-room}
 
 module _ (f : Form) (h : Hall) (ts b : List ℕ) (e : Entry) where
-  pub changes-apart : (k : ℕ) → 1 ≤ k → k ≤ 9 → apart (changes h b e f ts k) ≡ true
-  unfolding changes joining dealing updating stocking selling authenticating clearing
-  changes-apart = kinds (λ k. apart (changes h b e f ts k) ≡ true) refl refl refl refl refl refl refl refl refl
+  pub changes-apart : (k : ℕ) → IsKind k → apart (changes h b e f ts k) ≡ true
+  unfolding changes joining dealing updating stocking selling authenticating settling clearing
+  changes-apart =
+      by-kind (λ k. apart (changes h b e f ts k) ≡ true)
+      record {
+        join-customer = refl;
+        join-bench = refl;
+        open-line = refl;
+        update = refl;
+        stock = refl;
+        sell = refl;
+        bench-authenticates = refl;
+        desk-authenticates = refl;
+        clear = refl;
+      }
 
   module _ (v : verdict f h ts b e ≡ 0) where
     its-customer : {c : ℕ} → (usesCustomer (e .kind) ≡ true) × (c ≡ e .customer) → c < h .customers
@@ -51,26 +64,34 @@ module _ (f : Form) (h : Hall) (ts b : List ℕ) (e : Entry) where
     none : (a : ℕ) → length (made a 0 []) ≡ words
     none a = made-long a 0 [] (omega arith)
 
-    changes-long : (e .kind ≡ kindOf Sell → length (soldLine h b e f) ≡ words) → Each (λ p r. length r ≡ words) (changes h b e f ts (e .kind))
-    unfolding changes joining dealing updating stocking selling authenticating clearing
-    changes-long sold =
-        kinds (λ k. e .kind ≡ k → Each (λ p r. length r ≡ words) (changes h b e f ts k))
-        (λ k. (none 0, (none _, tt)))
-        (λ k. (none 0, (none 0, tt)))
-        (λ k. (none 0, tt))
-        (λ k. (new 0 _ (update-room f h ts b e v k), (new _ _ (update-room f h ts b e v k), (none _, tt))))
-        (λ k.
-        let l : min (e .amount) (left ts b) ≤ mostHeld = omega (arith, stock-few f h ts b e v k) in
-        (new 0 (min (e .amount) (left ts b)) l, (new _ (min (e .amount) (left ts b)) l, (none _, tt))))
-        (λ k. (few 0 (e .amount) _, (sold k, tt)))
-        (λ k. (few 0 1 _, (few _ 1 _, tt)))
-        (λ k. (few 0 1 _, (few _ 1 _, tt)))
-        (λ k.
-        let t : List ℕ = f .tokens ts (theLine h b e) in (
-          made-long _ 0 (without t (held (theView h b e))) (omega (arith, without-short t (held (theView h b e)), held-few (number h (View (e .customer))) b)),
-          (few _ 0 _, (none 0, tt)),
-        ))
-        (e .kind) (kind-from f h ts b e v) (kind-to f h ts b e v) refl
+    pub clear-bench : e .kind ≡ kindOf Clear → Inside h (BenchView (e .bench))
+    unfolding occ
+    clear-bench k = its-bench (ap usesBench k, refl)
+
+    changes-long : length b ≡ words * records h → (e .kind ≡ kindOf Sell → length (soldLine h b e f) ≡ words) → Each (λ p r. length r ≡ words) (changes h b e f ts (e .kind))
+    unfolding changes joining dealing updating stocking selling authenticating settling clearing
+    changes-long long sold =
+        let same : (a : ℕ) (p : Place) → Inside h p → length (withAmount a (at h b p)) ≡ words =
+        λ a p i. with-long 1 a (at h b p) ∙ at-long h b long p i in
+        by-kind (λ k. e .kind ≡ k → Each (λ p r. length r ≡ words) (changes h b e f ts k))
+        record {
+          join-customer = λ k. (none 0, (none _, tt));
+          join-bench = λ k. (none 0, (none 0, tt));
+          open-line = λ k. (none 0, tt);
+          update = λ k. (new 0 _ (update-room f h ts b e v k), (new _ _ (update-room f h ts b e v k), (same _ Desk tt, tt)));
+          stock = λ k.
+              let l : min (e .amount) (left ts b) ≤ mostHeld = omega (arith, stock-few f h ts b e v k) in
+              (new 0 (min (e .amount) (left ts b)) l, (new _ (min (e .amount) (left ts b)) l, (same _ Desk tt, tt)));
+          sell = λ k. (few 0 (e .amount) _, (sold k, tt));
+          bench-authenticates = λ k. (few 0 1 _, (few _ 1 _, tt));
+          desk-authenticates = λ k. (few 0 1 _, (few _ 1 _, tt));
+          clear = λ k.
+              let t : List ℕ = f .tokens ts (theLine h b e) in (
+                made-long _ 0 (without t (held (theView h b e))) (omega (arith, without-short t (held (theView h b e)), held-few (number h (View (e .customer))) b)),
+                (same _ (BenchView (e .bench)) (clear-bench k), (none 0, tt)),
+              );
+        }
+        (e .kind) (granted-kind f h ts b e v) refl
 
 -- what each form shows of itself: a sound book has the right length, and a line after a granted sale is a whole record
 pub record Regular (f : Form) : Type 0 where
@@ -82,8 +103,8 @@ fits f regular h ts b e v =
     each-both (λ p r. Named e (e .kind) p) (λ p r. length r ≡ words) (Fit h)
     (λ p r n l. record { inside = named-inside f h ts b e v p n; long = l })
     (changes h b e f ts (e .kind))
-    (changes-named f h ts b e (e .kind) (kind-from f h ts b e v) (kind-to f h ts b e v))
-    (changes-long f h ts b e v (regular .whole h ts b e v))
+    (changes-named f h ts b e (e .kind) (granted-kind f h ts b e v))
+    (changes-long f h ts b e v (regular .long h ts b (granted-good f h ts b e v)) (regular .whole h ts b e v))
 
 pub plain-regular : Regular plain
 unfolding soldLine held

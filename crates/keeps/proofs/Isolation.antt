@@ -1,6 +1,5 @@
 -- A step leaves every record of a party that it doesn't name, word for word: no bench is touched by another's step.
-use mathlib.Core.Path.{_≡_, sym, ap, _∙_}
-use mathlib.Core.Logic.{⊎-elim}
+use mathlib.Core.Path.{_≡_, refl}
 use Prim.Native.Nat.{_<_}
 use Rattle.rules.specs.declared.Hall.{Hall}
 use Rattle.rules.specs.declared.Entry.{Entry}
@@ -9,12 +8,11 @@ use Rattle.rules.specs.Hall.{Place, BenchView, Till, Line}
 use Rattle.rules.specs.Tape.{usesBench}
 use Rattle.rules.specs.Form.{Form}
 use Rattle.rules.specs.Steps.{changes, effect}
-use Rattle.rules.specs.Verdicts.{verdict, step}
-use Rattle.rules.proofs.Tests.{same}
-use Rattle.rules.proofs.Stepping.{step-granted, step-refused, step-verdict}
+use Rattle.rules.specs.Verdicts.{step}
+use Rattle.rules.proofs.Stepping.{step-cases}
 use Rattle.laws.proofs.Places.{Inside}
 use Rattle.laws.proofs.Changes.{at, all-outside}
-use Rattle.rules.proofs.Granted.{granted-good, kind-from, kind-to}
+use Rattle.rules.proofs.Granted.{granted-good, granted-kind}
 use Rattle.rules.proofs.Named.{Named, changes-named}
 use Rattle.keeps.proofs.Fits.{Regular, fits}
 
@@ -28,16 +26,13 @@ module _ (f : Form) (regular : Regular f) (h : Hall) (ts b : List ℕ) (e : Entr
   pub isolation : (q : Place) → Inside h q → (Named e (e .kind) q → ⊥) → at h (step f h ts b e .cells) q ≡ at h b q
   unfolding effect
   isolation q i other =
-      ⊎-elim
-      (λ (z : step f h ts b e .number ≡ 0).
-      let v : verdict f h ts b e ≡ 0 = sym (step-verdict f h ts b e) ∙ z in
-      ap (λ (x : List ℕ). at h x q) (step-granted f h ts b e z)
-      ∙ all-outside h (Named e (e .kind)) (changes h b e f ts (e .kind)) b
+      step-cases f h ts b e (λ b′. at h b′ q ≡ at h b q)
+      (λ v.
+      all-outside h (Named e (e .kind)) (changes h b e f ts (e .kind)) b
       (regular .long h ts b (granted-good f h ts b e v))
       (fits f regular h ts b e v)
-      (changes-named f h ts b e (e .kind) (kind-from f h ts b e v) (kind-to f h ts b e v)) q i other)
-      (λ (z : step f h ts b e .number ≡ 0 → ⊥). ap (λ (x : List ℕ). at h x q) (step-refused f h ts b e z))
-      (same (step f h ts b e .number) 0)
+      (changes-named f h ts b e (e .kind) (granted-kind f h ts b e v)) q i other)
+      refl
 
   -- a bench that the step doesn't name: any other than the one it names, and all of them where it names none
   pub other-bench : (m : ℕ) → m < h .benches → (usesBench (e .kind) ≡ true → m ≡ e .bench → ⊥) → SameBench h b (step f h ts b e .cells) m

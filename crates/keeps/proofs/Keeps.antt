@@ -5,26 +5,31 @@ use Prim.Native.Nat.{_≤_, _<_}
 use native.Mathlib.Omega.{arith}
 use Rattle.rules.specs.declared.Hall.{Hall}
 use Rattle.rules.specs.declared.Entry.{Entry}
-use Rattle.rules.specs.Lists.{ℕ, _*_, true, _||_, eqb, List, [], _∷_, _++_, length, occ}
+use Rattle.rules.specs.Lists.{ℕ, _*_, true, _||_, eqb, List, [], _∷_, _++_, length, occ, _+_, cond}
 use Rattle.rules.specs.Hall.{Carnet, View, Till, BenchView, Line, number}
 use Rattle.rules.specs.Records.{inUse, recordAt}
-use Rattle.rules.specs.Tape.{JoinCustomer, OpenLine, Sell, Clear, kindOf, usesBench, usesCustomer, entries}
+use Rattle.rules.specs.Tape.{JoinCustomer, JoinBench, OpenLine, Sell, Clear, kindOf, usesBench, usesCustomer, entries}
 use Rattle.rules.specs.Form.{Form, plain}
 use Rattle.rules.specs.Steps.{changes, effect}
-use Rattle.rules.specs.Sound.{sound}
+use Rattle.rules.specs.Sound.{total, sound}
 use Rattle.rules.specs.Verdicts.{verdict, step, Ran, steps, run}
-use Rattle.rules.proofs.Tests.{same}
-use Rattle.rules.proofs.Stepping.{step-granted, step-refused, step-verdict}
+use Rattle.rules.proofs.Stepping.{step-cases}
+use Rattle.rules.proofs.Along.{along}
 use Rattle.rules.proofs.Running.{then, steps-answer, run-does, run-granted, run-joined}
 use Rattle.laws.proofs.Reflect.{Book, sound-facts}
 use Rattle.laws.proofs.Books.{facts-at, line-at}
 use Rattle.laws.proofs.Places.{inside-below}
 use Rattle.rules.proofs.Named.{Each}
-use Rattle.laws.proofs.Changes.{Fit}
-use Rattle.rules.proofs.Granted.{kinds, granted-good, kind-from, kind-to, bench-inside, customer-inside, new-customer, has-bench, has-customer, has-line, join-budget, stock-few, update-budget, update-room, update-left, sell-enough, sell-room, sell-few, clear-lives}
+use Rattle.laws.proofs.Changes.{Fit, apart}
+use Rattle.rules.proofs.ByKind.{by-kind}
+use Rattle.rules.proofs.Granted.{granted-good, granted-kind, bench-inside, customer-inside, new-customer, new-bench, has-bench, has-customer, has-line, join-budget, stock-few, update-budget, update-room, update-left, sell-enough, sell-room, sell-few, clear-lives}
 use Rattle.keeps.proofs.Fits.{changes-apart, fits, plain-regular}
-use Rattle.keeps.proofs.Fine.{Fine, fine-keeps}
+use Rattle.keeps.proofs.Fine.{Fine, fine-money, fine-keeps}
 use Rattle.keeps.proofs.FineKinds.{join-customer-fine, join-bench-fine, open-line-fine, update-fine, stock-fine, sell-fine, authenticate-fine, clear-fine}
+
+-- what a granted step of kind k brings into the hall: the money of who joins
+abbrev pub brings : ℕ → Entry → ℕ
+brings k e = cond (eqb k (kindOf JoinCustomer)) (e .amount) 0
 
 -- ---- the plain book
 module _ (h : Hall) (ts b : List ℕ) (e : Entry) (v : verdict plain h ts b e ≡ 0) where
@@ -58,34 +63,50 @@ module _ (h : Hall) (ts b : List ℕ) (e : Entry) (v : verdict plain h ts b e �
       let ne : inUse (recordAt (number h (Carnet (e .customer))) b) ≡ 1 → ⊥ = new-customer plain h ts b e v q in
       omega (arith, facts-at h ts b ok (number h (Carnet (e .customer))) (inside-below h (Carnet (e .customer)) i) .flag)
 
+  newT : e .kind ≡ kindOf JoinBench → e .bench < h .benches → inUse (recordAt (number h (Till (e .bench))) b) ≡ 0
+  newT q i =
+      let ne : inUse (recordAt (number h (Till (e .bench))) b) ≡ 1 → ⊥ = new-bench plain h ts b e v q in
+      omega (arith, facts-at h ts b ok (number h (Till (e .bench))) (inside-below h (Till (e .bench)) i) .flag)
+
   abbrev Stepped : ℕ → Type 0
-  Stepped k = (d : ℕ) × ((n : ℕ) × Fine h ts b d n (changes h b e plain ts k))
+  Stepped k = (d : ℕ) × ((n : ℕ) × Fine h ts b d n (brings k e) (changes h b e plain ts k))
 
   step-fine : Each (Fit h) (changes h b e plain ts (e .kind)) → Stepped (e .kind)
   unfolding changes occ
   step-fine =
-      kinds (λ k. e .kind ≡ k → Each (Fit h) (changes h b e plain ts k) → Stepped k)
-      (λ q w. (_, (_, join-customer-fine h ts b e ok (customer 1 q refl) (newC q (customer 1 q refl)) (join-budget plain h ts b e v q))))
-      (λ q w. (_, (_, join-bench-fine h ts b e ok (bench 2 q refl))))
-      (λ q w. (_, (_, open-line-fine h ts b e ok (bench 3 q refl) (customer 3 q refl) (hasC 3 q (omega arith) refl) (hasT 3 q (omega arith) refl))))
-      (λ q w. (_, (_, update-fine h ts b e ok (customer 4 q refl) (hasV 4 q (omega arith) refl) (update-budget plain h ts b e v q) (update-room plain h ts b e v q) (update-left plain h ts b e v q) w)))
-      (λ q w. (_, (_, stock-fine h ts b e ok (bench 5 q refl) (hasB 5 q (omega arith) refl) (stock-few plain h ts b e v q) w)))
-      (λ q w.
-      let i : (e .bench < h .benches) × (e .customer < h .customers) = (bench 6 q refl, customer 6 q refl) in
-      let few = sell-few plain h ts b e v q (line-at h ts b ok (number h (Line (e .bench) (e .customer))) (omega arith) (inside-below h (Line (e .bench) (e .customer)) i) .few) in
-      (_, (_, sell-fine h ts b e ok (i .0) (i .1) (hasC 6 q (omega arith) refl) (hasL 6 q refl) (sell-enough plain h ts b e v q) (sell-room plain h ts b e v q) few w)))
-      (λ q w. (_, (_, authenticate-fine h ts b e ok (bench 7 q refl) (hasB 7 q (omega arith) refl) w)))
-      (λ q w. (_, (_, authenticate-fine h ts b e ok (bench 8 q refl) (hasB 8 q (omega arith) refl) w)))
-      (λ q w. (_, (_, clear-fine h ts b e ok (bench 9 q refl) (customer 9 q refl) (hasV 9 q (omega arith) refl) (hasB 9 q (omega arith) refl) (hasL 9 q refl) (clear-lives plain h ts b e v q) w)))
-      (e .kind) (kind-from plain h ts b e v) (kind-to plain h ts b e v) refl
+      by-kind (λ k. e .kind ≡ k → Each (Fit h) (changes h b e plain ts k) → Stepped k)
+      record {
+        join-customer = λ q w. (_, (_, join-customer-fine h ts b e ok (customer 1 q refl) (newC q (customer 1 q refl)) (join-budget plain h ts b e v q)));
+        join-bench = λ q w. (_, (_, join-bench-fine h ts b e ok (bench 2 q refl) (newT q (bench 2 q refl))));
+        open-line = λ q w.
+            (_, (_, open-line-fine h ts b e ok (bench 3 q refl) (customer 3 q refl) (hasC 3 q (omega arith) refl) (hasT 3 q (omega arith) refl)));
+        update = λ q w.
+            (_, (_, update-fine h ts b e ok (customer 4 q refl) (hasV 4 q (omega arith) refl) (update-budget plain h ts b e v q) (update-room plain h ts b e v q) (update-left plain h ts b e v q) w));
+        stock = λ q w. (_, (_, stock-fine h ts b e ok (bench 5 q refl) (hasB 5 q (omega arith) refl) (stock-few plain h ts b e v q) w));
+        sell = λ q w.
+            let i : (e .bench < h .benches) × (e .customer < h .customers) = (bench 6 q refl, customer 6 q refl) in
+            let few = sell-few plain h ts b e v q (line-at h ts b ok (number h (Line (e .bench) (e .customer))) (omega arith) (inside-below h (Line (e .bench) (e .customer)) i) .few) in
+            (_, (_, sell-fine h ts b e ok (i .0) (i .1) (hasC 6 q (omega arith) refl) (hasL 6 q refl) (sell-enough plain h ts b e v q) (sell-room plain h ts b e v q) few w));
+        bench-authenticates = λ q w. (_, (_, authenticate-fine h ts b e ok (bench 7 q refl) (hasB 7 q (omega arith) refl) w));
+        desk-authenticates = λ q w. (_, (_, authenticate-fine h ts b e ok (bench 8 q refl) (hasB 8 q (omega arith) refl) w));
+        clear = λ q w.
+            (_, (_, clear-fine h ts b e ok (bench 9 q refl) (customer 9 q refl) (hasV 9 q (omega arith) refl) (hasB 9 q (omega arith) refl) (hasL 9 q refl) (clear-lives plain h ts b e v q) w));
+      }
+      (e .kind) (granted-kind plain h ts b e v) refl
+
+  whole : Each (Fit h) (changes h b e plain ts (e .kind))
+  whole = fits plain plain-regular h ts b e v
+
+  all-apart : apart (changes h b e plain ts (e .kind)) ≡ true
+  all-apart = changes-apart plain h ts b e (e .kind) (granted-kind plain h ts b e v)
 
   pub plain-keeps : sound h ts (effect plain h ts b e) ≡ true
   unfolding effect
-  plain-keeps =
-      let w : Each (Fit h) (changes h b e plain ts (e .kind)) = fits plain plain-regular h ts b e v in
-      fine-keeps h ts b ok _ _ (changes h b e plain ts (e .kind)) w
-      (changes-apart plain h ts b e (e .kind) (kind-from plain h ts b e v) (kind-to plain h ts b e v))
-      (step-fine w .1 .1)
+  plain-keeps = fine-keeps h ts b ok _ _ _ (changes h b e plain ts (e .kind)) whole all-apart (step-fine whole .1 .1)
+
+  pub plain-money : total h (λ k. recordAt k (effect plain h ts b e)) ≡ total h (λ k. recordAt k b) + brings (e .kind) e
+  unfolding effect
+  plain-money = fine-money h ts b ok _ _ _ (changes h b e plain ts (e .kind)) whole all-apart (step-fine whole .1 .1)
 
 -- ---- a form whose granted steps keep its books sound
 abbrev pub Keeps : Form → Type 0
@@ -93,17 +114,20 @@ Keeps f = (h : Hall) (ts b : List ℕ) (e : Entry) → verdict f h ts b e ≡ 0 
 
 module _ (f : Form) (keeps : Keeps f) (h : Hall) (ts : List ℕ) where
   pub step-keeps : (b : List ℕ) (e : Entry) → f .good h ts b ≡ true → f .good h ts (step f h ts b e .cells) ≡ true
-  step-keeps b e good =
-      ⊎-elim
-      (λ (z : step f h ts b e .number ≡ 0).
-      ap (f .good h ts) (step-granted f h ts b e z) ∙ keeps h ts b e (sym (step-verdict f h ts b e) ∙ z))
-      (λ (z : step f h ts b e .number ≡ 0 → ⊥). ap (f .good h ts) (step-refused f h ts b e z) ∙ good)
-      (same (step f h ts b e .number) 0)
+  step-keeps b e good = step-cases f h ts b e (λ b′. f .good h ts b′ ≡ true) (keeps h ts b e) good
+
+  -- what holds along a tape may count on a sound book at each step
+  pub along-sound : (R : List ℕ → List Entry → Ran → Type 0)
+      → ((b : List ℕ) → f .good h ts b ≡ true → R b [] (record { answer = 0; verdicts = []; book = b }))
+      → ((b : List ℕ) (e : Entry) (es : List Entry) (rest : Ran) → f .good h ts b ≡ true → R (step f h ts b e .cells) es rest
+      → R b (e ∷ es) (record { answer = 0; verdicts = step f h ts b e .number ∷ rest .verdicts; book = rest .book }))
+      → (b : List ℕ) (es : List Entry) → f .good h ts b ≡ true → R b es (steps f h ts b es)
+  along-sound R none more =
+      along f h ts (λ b es r. f .good h ts b ≡ true → R b es r) none
+      (λ b e es rest later good. more b e es rest good (later (step-keeps b e good)))
 
   pub steps-keep : (b : List ℕ) (es : List Entry) → f .good h ts b ≡ true → f .good h ts (steps f h ts b es .book) ≡ true
-  unfolding steps
-  steps-keep b [] good = good
-  steps-keep b (e ∷ es) good = steps-keep (step f h ts b e .cells) es (step-keeps b e good)
+  steps-keep = along-sound (λ b es r. f .good h ts (r .book) ≡ true) (λ b good. good) (λ b e es rest good later. later)
 
   run-keeps : (b tape out : List ℕ) → run f h ts b tape out .answer ≡ 0 → f .good h ts (run f h ts b tape out .book) ≡ true
   run-keeps b tape out z =

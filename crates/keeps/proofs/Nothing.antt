@@ -6,17 +6,18 @@ use native.Mathlib.Omega.{arith}
 use borrow.Author.Tests.{eqb-true}
 use Rattle.rules.specs.declared.Hall.{Hall}
 use Rattle.rules.specs.declared.Entry.{Entry}
-use Rattle.rules.specs.Lists.{ℕ, _+_, min, true, _&&_, _||_, leb, eqb, List, [], _∷_, _++_, take, drop, occ, without}
-use Rattle.rules.specs.Hall.{Place, Carnet, View, BenchView, Till, Line, number, records}
-use Rattle.rules.specs.Records.{words, inUse, amount, count, sales, held, filled, made, recordAt, put}
+use Rattle.rules.specs.Lists.{ℕ, _+_, min, true, _&&_, _||_, leb, eqb, List, [], _∷_, _++_, length, take, drop, occ, without}
+use Rattle.rules.specs.Hall.{Place, Carnet, View, Till, Line, number, records}
+use Rattle.rules.specs.Records.{words, inUse, amount, count, sales, held, filled, made, withAmount, recordAt, put}
 use Rattle.rules.specs.Tape.{Sell, Clear, kindOf, usesBench, usesCustomer}
 use Rattle.rules.specs.Form.{Form, plain}
-use Rattle.rules.specs.Steps.{Change, _≔_, putAll, theCarnet, theView, theBenchView, theLine, soldLine, selling, clearing, changes, effect}
+use Rattle.rules.specs.Steps.{Change, _≔_, putAll, theCarnet, theView, theBenchView, theLine, soldLine, selling, settling, clearing, changes, effect}
 use Rattle.rules.specs.Verdicts.{verdict, step}
 use Rattle.rules.proofs.Tests.{below, parts}
 use Rattle.rules.proofs.Stepping.{step-granted, step-verdict}
-use Rattle.rules.proofs.Granted.{granted-good, bench-inside, customer-inside, has-bench, has-customer, has-line}
+use Rattle.rules.proofs.Granted.{granted-good, bench-inside, customer-inside, has-customer, has-line}
 use Rattle.laws.proofs.Blocks.{block-back}
+use Rattle.laws.proofs.Made.{with-own}
 use Rattle.laws.proofs.Reflect.{Book, sound-facts}
 use Rattle.laws.proofs.Asked.{record-shaped, record-is, record-made, held-none, place-view}
 use Rattle.laws.proofs.Books.{long-at, place-at, bare-at, line-at}
@@ -87,12 +88,6 @@ module _ (f : Form) (tidies : Tidies f) (h : Hall) (ts b : List ℕ) (e : Entry)
     view-made : theView h b e ≡ made (amount (theView h b e)) 0 (held (theView h b e))
     view-made = let c : e .customer < h .customers = c-in in tidy .made-at (number h (View (e .customer))) (omega arith) (omega arith) hasV
 
-    bench-made : theBenchView h b e ≡ made (amount (theBenchView h b e)) 0 (held (theBenchView h b e))
-    bench-made =
-        let m : e .bench < h .benches = m-in in
-        tidy .made-at (number h (BenchView (e .bench))) (omega arith) (omega arith)
-        (has-bench f h ts b e v (omega (arith, late)) (ap usesBench q ∙ search parts))
-
     line-filled : theLine h b e ≡ filled 1 0 (count (theLine h b e)) (sales (theLine h b e)) (f .cells (theLine h b e))
     line-filled =
         tidy .filled-at (number h (Line (e .bench) (e .customer))) (omega arith) line-in
@@ -110,15 +105,15 @@ module _ (f : Form) (tidies : Tidies f) (h : Hall) (ts b : List ℕ) (e : Entry)
         also none
 
     none-waiting : count (theLine h b e) ≡ 0 → Standing h b (clearing h b e f ts)
-    unfolding clearing made
+    unfolding settling clearing made amount
     none-waiting z =
         let empty = tidy .emptied (number h (Line (e .bench) (e .customer))) (omega arith) line-in z in
         let blank : filled 1 0 (count (theLine h b e)) (sales (theLine h b e)) (f .cells (theLine h b e)) ≡ made 0 0 [] = rw (z, empty .0, empty .2) in
-        let same : amount (theBenchView h b e) + count (theLine h b e) ≡ amount (theBenchView h b e) = omega arith in
+        let paid : amount (theBenchView h b e) + length (f .tokens ts (theLine h b e)) ≡ amount (theBenchView h b e) = rw (empty .1) (omega arith) in
         (view-made
         ∙ ap (made (amount (theView h b e)) 0)
         (sym (ap (λ (t : List ℕ). without t (held (theView h b e))) (empty .1) ∙ without-none (held (theView h b e)))))
-        also (bench-made ∙ ap (λ (a : ℕ). made a 0 (held (theBenchView h b e))) (sym same))
+        also (sym (ap (λ (a : ℕ). withAmount a (theBenchView h b e)) paid ∙ with-own 1 (theBenchView h b e)))
         also (line-filled ∙ blank)
         also none
 

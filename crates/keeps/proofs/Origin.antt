@@ -11,16 +11,18 @@ use Rattle.rules.specs.Hall.{Line, number}
 use Rattle.rules.specs.Records.{count, held, made}
 use Rattle.rules.specs.Tape.{Sell, kindOf}
 use Rattle.rules.specs.Form.{Form}
-use Rattle.rules.specs.Steps.{joining, dealing, updating, stocking, soldLine, selling, authenticating, clearing, changes, effect, theCarnet, theLine}
+use Rattle.rules.specs.Steps.{joining, dealing, updating, stocking, soldLine, selling, authenticating, settling, clearing, changes, effect, theCarnet, theLine}
 use Rattle.rules.specs.Verdicts.{verdict, step, steps}
 use Rattle.rules.specs.Sound.{emptyBook}
-use Rattle.rules.proofs.Tests.{same, below, parts}
-use Rattle.rules.proofs.Stepping.{step-granted, step-refused, step-verdict}
+use Rattle.rules.proofs.Tests.{below, parts}
+use Rattle.rules.proofs.Stepping.{step-cases}
+use Rattle.rules.proofs.Along.{along}
 use Rattle.laws.proofs.Occurrences.{occ-append}
 use Rattle.laws.proofs.Places.{Inside, inside-below, samePlace}
 use Rattle.laws.proofs.Changes.{at, lookup, all-at}
 use Rattle.laws.proofs.Empty.{blank, empty-other}
-use Rattle.rules.proofs.Granted.{kinds, granted-good, kind-from, kind-to}
+use Rattle.rules.proofs.ByKind.{IsKind, by-kind}
+use Rattle.rules.proofs.Granted.{granted-good, granted-kind}
 use Rattle.keeps.proofs.Fits.{Regular, fits, changes-apart}
 
 -- what each form shows of its lines: an empty one stands for nothing, a sale's tokens stand before the older ones, and the count is their number
@@ -84,50 +86,49 @@ module _ (f : Form) (regular : Regular f) (line : Lines f) (h : Hall) (ts : List
         (isIn-append t (take (e .amount) (held (theCarnet h b e))) (f .tokens ts (theLine h b e))
         (ap (isIn t) (sym (line .sold h ts b e v k)) ∙ i))
 
-    came : (k : ℕ) → 1 ≤ k → k ≤ 9 → e .kind ≡ k → In (lookup (changes h b e f ts k) (at h b) (Line m c)) → Came
-    unfolding changes joining dealing updating stocking selling authenticating clearing
+    came : (k : ℕ) → IsKind k → e .kind ≡ k → In (lookup (changes h b e f ts k) (at h b) (Line m c)) → Came
+    unfolding changes joining dealing updating stocking selling authenticating settling clearing
     came =
-        kinds (λ k. e .kind ≡ k → In (lookup (changes h b e f ts k) (at h b) (Line m c)) → Came)
-        (λ k i. inl i)
-        (λ k i. inl i)
-        (λ k i. emptied its i)
-        (λ k i. inl i)
-        (λ k i. inl i)
-        (λ k i. sold k its refl i)
-        (λ k i. inl i)
-        (λ k i. inl i)
-        (λ k i. emptied its i)
+        by-kind (λ k. e .kind ≡ k → In (lookup (changes h b e f ts k) (at h b) (Line m c)) → Came)
+        record {
+          join-customer = λ k i. inl i;
+          join-bench = λ k i. inl i;
+          open-line = λ k i. emptied its i;
+          update = λ k i. inl i;
+          stock = λ k i. inl i;
+          sell = λ k i. sold k its refl i;
+          bench-authenticates = λ k i. inl i;
+          desk-authenticates = λ k i. inl i;
+          clear = λ k i. emptied its i;
+        }
 
   module _ (b : List ℕ) (e : Entry) where
     step-came : In (at h (step f h ts b e .cells) (Line m c)) → In (at h b (Line m c)) ⊎ Sale f h ts b e m c t
     unfolding effect
-    step-came i =
-        ⊎-elim
-        (λ (z : step f h ts b e .number ≡ 0).
-        let v : verdict f h ts b e ≡ 0 = sym (step-verdict f h ts b e) ∙ z in
-        let from : 1 ≤ e .kind = kind-from f h ts b e v in
-        let to : e .kind ≤ 9 = kind-to f h ts b e v in
-        let stands : at h (step f h ts b e .cells) (Line m c) ≡ lookup (changes h b e f ts (e .kind)) (at h b) (Line m c) =
-        ap (λ (x : List ℕ). at h x (Line m c)) (step-granted f h ts b e z)
-        ∙ all-at h (changes h b e f ts (e .kind)) b (regular .long h ts b (granted-good f h ts b e v)) (fits f regular h ts b e v)
-        (changes-apart f h ts b e (e .kind) from to) (Line m c) inside in
-        came b e v (e .kind) from to refl (ap (λ (r : List ℕ). isIn t (f .tokens ts r)) (sym stands) ∙ i))
-        (λ (z : step f h ts b e .number ≡ 0 → ⊥).
-        inl (ap (λ (x : List ℕ). isIn t (f .tokens ts (at h x (Line m c)))) (sym (step-refused f h ts b e z)) ∙ i))
-        (same (step f h ts b e .number) 0)
+    step-came =
+        step-cases f h ts b e (λ b′. In (at h b′ (Line m c)) → In (at h b (Line m c)) ⊎ Sale f h ts b e m c t)
+        (λ v i.
+        let is : IsKind (e .kind) = granted-kind f h ts b e v in
+        let stands : at h (effect f h ts b e) (Line m c) ≡ lookup (changes h b e f ts (e .kind)) (at h b) (Line m c) =
+        all-at h (changes h b e f ts (e .kind)) b (regular .long h ts b (granted-good f h ts b e v)) (fits f regular h ts b e v)
+        (changes-apart f h ts b e (e .kind) is) (Line m c) inside in
+        came b e v (e .kind) is refl (ap (λ (r : List ℕ). isIn t (f .tokens ts r)) (sym stands) ∙ i))
+        (λ i. inl i)
 
   pub origin : (es : List Entry) (b : List ℕ) → In (at h (steps f h ts b es .book) (Line m c)) → In (at h b (Line m c)) ⊎ Sold f h ts m c t b es
-  unfolding steps
-  origin [] b i = inl i
-  origin (e ∷ es) b i =
+  origin es b =
+      along f h ts (λ b es r. In (at h (r .book) (Line m c)) → In (at h b (Line m c)) ⊎ Sold f h ts m c t b es)
+      (λ b i. inl i)
+      (λ b e es rest later i.
       ⊎-elim
       (λ (x : In (at h (step f h ts b e .cells) (Line m c))).
       ⊎-elim
       (λ (y : In (at h b (Line m c))). inl y)
       (λ (y : Sale f h ts b e m c t). inr (now y))
       (step-came b e x))
-      (λ (x : Sold f h ts m c t (step f h ts b e .cells) es). inr (later x))
-      (origin es (step f h ts b e .cells) i)
+      (λ (x : Sold f h ts m c t (step f h ts b e .cells) es). inr (Sold.later x))
+      (later i))
+      b es
 
   -- over every tape from empty
   pub sold-there : (es : List Entry) → In (at h (steps f h ts (emptyBook h) es .book) (Line m c)) → Sold f h ts m c t (emptyBook h) es

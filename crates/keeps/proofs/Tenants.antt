@@ -1,26 +1,26 @@
 -- No tenant is touched by another's step or paid for another's sale.
-use mathlib.Core.Path.{_≡_, refl, sym, ap, _∙_}
+use mathlib.Core.Path.{_≡_, refl, ap, _∙_}
 use Prim.Native.Nat.{_<_}
 use native.Mathlib.Omega.{arith}
 use borrow.Author.Tests.{eq-eqb}
 use Rattle.rules.specs.declared.Hall.{Hall}
 use Rattle.rules.specs.declared.Entry.{Entry}
-use Rattle.rules.specs.Lists.{ℕ, _+_, true, List, [], length, occ, isIn}
-use Rattle.rules.specs.Hall.{Carnet, BenchView, Line, number}
-use Rattle.rules.specs.Records.{amount, count, held}
+use Rattle.rules.specs.Lists.{ℕ, _+_, _*_, true, List, [], length, occ, isIn}
+use Rattle.rules.specs.Hall.{Carnet, BenchView, Line, number, records}
+use Rattle.rules.specs.Records.{words, amount, count, held}
 use Rattle.rules.specs.Sound.{emptyBook}
 use Rattle.rules.specs.Tape.{Clear, kindOf, usesBench, usesCustomer}
 use Rattle.rules.specs.Form.{Form, plain}
-use Rattle.rules.specs.Steps.{clearing, changes, effect, theLine}
+use Rattle.rules.specs.Steps.{settling, clearing, changes, effect, theLine}
 use Rattle.rules.specs.Verdicts.{verdict, step, steps}
 use Rattle.rules.proofs.Stepping.{step-granted, step-verdict, sold-before}
-use Rattle.rules.proofs.Granted.{granted-good, kind-from, kind-to, bench-inside, customer-inside, sell-enough}
-use Rattle.laws.proofs.Made.{made-amount, made-held}
+use Rattle.rules.proofs.Granted.{granted-good, granted-kind, bench-inside, customer-inside, sell-enough}
+use Rattle.laws.proofs.Made.{made-held, amount-is}
 use Rattle.laws.proofs.Reflect.{sound-facts}
 use Rattle.laws.proofs.Books.{full-at}
 use Rattle.laws.proofs.Places.{inside-below}
-use Rattle.laws.proofs.Changes.{at, lookup, all-at}
-use Rattle.keeps.proofs.Fits.{Regular, fits, changes-apart, plain-regular}
+use Rattle.laws.proofs.Changes.{at, lookup, at-long, all-at}
+use Rattle.keeps.proofs.Fits.{Regular, fits, clear-bench, changes-apart, plain-regular}
 use Rattle.keeps.proofs.Isolation.{SameBench, other-bench}
 use Rattle.keeps.proofs.Origin.{Lines, Sold, sold-there}
 
@@ -36,30 +36,32 @@ pub record Tenants (f : Form) : Type 0 where
   pub paid : (h : Hall) (ts : List ℕ) (es : List Entry) (e : Entry) → verdict f h ts (steps f h ts (emptyBook h) es .book) e ≡ 0 → e .kind ≡ kindOf Clear
       → Credit f h ts (steps f h ts (emptyBook h) es .book) es e
 
-module _ (f : Form) (regular : Regular f) (line : Lines f) (h : Hall) (ts b : List ℕ) (e : Entry) (v : verdict f h ts b e ≡ 0) (k : e .kind ≡ kindOf Clear) where
+module _ (f : Form) (regular : Regular f) (h : Hall) (ts b : List ℕ) (e : Entry) (v : verdict f h ts b e ≡ 0) (k : e .kind ≡ kindOf Clear) where
   m-in : e .bench < h .benches
-  unfolding occ
-  m-in = bench-inside f h ts b e v (ap usesBench k)
+  m-in = clear-bench f h ts b e v k
 
   c-in : e .customer < h .customers
   unfolding occ
   c-in = customer-inside f h ts b e v (ap usesCustomer k)
 
-  credits : amount (lookup (changes h b e f ts (kindOf Clear)) (at h b) (BenchView (e .bench))) ≡ amount (at h b (BenchView (e .bench))) + count (theLine h b e)
-  unfolding changes clearing
-  credits = rw (eq-eqb (e .bench) (e .bench) refl) (made-amount _ 0 _)
+  long : length b ≡ words * records h
+  long = regular .long h ts b (granted-good f h ts b e v)
+
+  credits : amount (lookup (changes h b e f ts (kindOf Clear)) (at h b) (BenchView (e .bench))) ≡ amount (at h b (BenchView (e .bench))) + length (f .tokens ts (theLine h b e))
+  unfolding changes settling clearing
+  credits =
+      rw (eq-eqb (e .bench) (e .bench) refl)
+      (amount-is _ (at h b (BenchView (e .bench))) (omega (arith, at-long h b long (BenchView (e .bench)) m-in)))
 
   balance : amount (at h (step f h ts b e .cells) (BenchView (e .bench))) ≡ amount (at h b (BenchView (e .bench))) + length (f .tokens ts (theLine h b e))
   unfolding effect
   balance =
-      let good : f .good h ts b ≡ true = granted-good f h ts b e v in
       ap (λ (x : List ℕ). amount (at h x (BenchView (e .bench)))) (step-granted f h ts b e (step-verdict f h ts b e ∙ v))
       ∙ ap amount
-      (all-at h (changes h b e f ts (e .kind)) b (regular .long h ts b good) (fits f regular h ts b e v)
-      (changes-apart f h ts b e (e .kind) (kind-from f h ts b e v) (kind-to f h ts b e v)) (BenchView (e .bench)) m-in)
+      (all-at h (changes h b e f ts (e .kind)) b long (fits f regular h ts b e v)
+      (changes-apart f h ts b e (e .kind) (granted-kind f h ts b e v)) (BenchView (e .bench)) m-in)
       ∙ ap (λ (i : ℕ). amount (lookup (changes h b e f ts i) (at h b) (BenchView (e .bench)))) k
       ∙ credits
-      ∙ ap (λ (n : ℕ). amount (at h b (BenchView (e .bench))) + n) (sym (line .counted h ts b good (e .bench) (e .customer) (m-in, c-in)))
 
 pub tenants : (f : Form) → Regular f → Lines f → Tenants f
 tenants f regular line =
@@ -68,8 +70,8 @@ tenants f regular line =
       paid = λ h ts es e v k.
           let b : List ℕ = steps f h ts (emptyBook h) es .book in
           record {
-            balance = balance f regular line h ts b e v k;
-            sold = λ t i. sold-there f regular line h ts (e .bench) (e .customer) t (m-in f regular line h ts b e v k, c-in f regular line h ts b e v k) es i;
+            balance = balance f regular h ts b e v k;
+            sold = λ t i. sold-there f regular line h ts (e .bench) (e .customer) t (m-in f regular h ts b e v k, c-in f regular h ts b e v k) es i;
           };
     }
 

@@ -1,5 +1,3 @@
 pub mod Table
-pub mod Found
-pub mod Answered
 pub mod Passed
-pub mod Determined
+pub mod Ready

@@ -5,22 +5,22 @@ use borrow.Author.Tests.{ltb-false}
 use Rattle.rules.specs.Lists.{ℕ, _+_}
 use Rattle.rules.specs.Hall.{mostHeld}
 use Rattle.rules.specs.Answers.{first}
-use Rattle.rules.proofs.Answering.{all-false}
-use Rattle.chain.specs.Chains.{updateRules, stockRules}
+use Rattle.rules.proofs.Answering.{passed}
+use Rattle.kinds.specs.Chains.{updateRules, stockRules}
 
-module _ (used budget held left n : ℕ) (passed : first (updateRules used budget held left n) ≡ 0) where
+module _ (used budget held left n : ℕ) (granted : first (updateRules used budget held left n) ≡ 0) where
   pub update-paid : n ≤ budget
   unfolding updateRules
-  update-paid = ltb-false _ _ (all-false (updateRules used budget held left n) refl passed .1 .0)
+  update-paid = ltb-false _ _ (passed (updateRules used budget held left n) refl granted 8)
 
   pub update-few : held + n ≤ mostHeld
   unfolding updateRules
-  update-few = ltb-false _ _ (all-false (updateRules used budget held left n) refl passed .1 .1 .0)
+  update-few = ltb-false _ _ (passed (updateRules used budget held left n) refl granted 9)
 
   pub update-left : held + n ≤ left
   unfolding updateRules
-  update-left = ltb-false _ _ (all-false (updateRules used budget held left n) refl passed .1 .1 .1 .0)
+  update-left = ltb-false _ _ (passed (updateRules used budget held left n) refl granted 10)
 
 pub stock-few : (used n : ℕ) → first (stockRules used n) ≡ 0 → n ≤ mostHeld
 unfolding stockRules
-stock-few used n passed = ltb-false _ _ (all-false (stockRules used n) refl passed .1 .0)
+stock-few used n granted = ltb-false _ _ (passed (stockRules used n) refl granted 7)

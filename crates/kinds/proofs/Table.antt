@@ -8,8 +8,8 @@ use Rattle.rules.specs.Tape.{entryRules}
 use Rattle.rules.specs.Form.{Form}
 use Rattle.rules.specs.Steps.{putAll, changes, effect}
 use Rattle.rules.specs.Verdicts.{table, step}
-use Rattle.rules.proofs.Answering.{all-false, first-past}
-use Rattle.chain.specs.Chains.{joinCustomerRules, joinBenchRules, openRules, updateRules, stockRules, lineRules, saleRules, clearRules, authenticateRules}
+use Rattle.rules.proofs.Answering.{first-past}
+use Rattle.kinds.specs.Chains.{joinCustomerRules, joinBenchRules, openRules, updateRules, stockRules, lineRules, saleRules, clearRules, authenticateRules}
 use Rattle.kinds.specs.Kinds.{joinCustomer, joinBench, openLine, update, stock, authenticate, knownLine, sell, clear, Passed}
 
 or-no : (a : Bool) → a || false ≡ a
@@ -32,7 +32,7 @@ module _ (f : Form) (h : Hall) (ts b : List ℕ) where
 
   from-4 : (e : Entry) → Passed f h ts b e → first (table f h ts b e) ≡ first (later e)
   unfolding later table entryRules first
-  from-4 e p = rw (p .good) (first-past (entryRules h e) (later e) (all-false (entryRules h e) refl (p .formed)))
+  from-4 e p = rw (p .good) (first-past (entryRules h e) (later e) refl (p .formed))
 
   step-later : (e : Entry) → Passed f h ts b e → step f h ts b e ≡ answer (later e) (putAll h (changes h b e f ts (e .kind)) b) b
   unfolding step effect

@@ -10,7 +10,7 @@ use Rattle.rules.specs.Records.{words, inUse, amount, count, sales, cells, held
 use Rattle.rules.specs.Tape.{entryRules}
 use Rattle.rules.specs.Form.{Form}
 use Rattle.rules.specs.Steps.{Change, _≔_, putAll, dealt, left, joining, updating, stocking, selling, authenticating, clearing, theCarnet, theView, theBenchView, theTill, theLine}
-use Rattle.chain.specs.Chains.{joinCustomerRules, joinBenchRules, openRules, updateRules, stockRules, lineRules, saleRules, clearRules, authenticateRules}
+use Rattle.kinds.specs.Chains.{joinCustomerRules, joinBenchRules, openRules, updateRules, stockRules, lineRules, saleRules, clearRules, authenticateRules}
 
 -- the first number that applies; where none does, the changes are made
 abbrev pub judged : Hall → List ℕ → List Rule → List Change → Answer

@@ -1,2 +1,2 @@
--- What the contracts cite beside the rules: a step, one kind at a time.
+pub mod Chains
 pub mod Kinds

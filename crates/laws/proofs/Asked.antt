@@ -3,13 +3,14 @@ use mathlib.Core.Path.{_≡_, sym, ap, _∙_}
 use Prim.Native.Nat.{_≤_, _<_}
 use native.Mathlib.Omega.{arith}
 use lib.ListN.{length-take, length-drop}
-use borrow.Author.Tests.{lt-ltb, le-ltb, le-leb, eq-eqb}
+use borrow.Author.Tests.{lt-ltb, le-ltb, le-leb, eq-eqb, ne-eqb}
 use Rattle.rules.specs.declared.Hall.{Hall}
-use Rattle.rules.specs.Lists.{ℕ, min, true, _&&_, eqb, List, [], length, take, drop, every, allZero, isIn, allDifferent}
+use Rattle.rules.specs.Lists.{ℕ, min, Bool, true, false, _&&_, _||_, eqb, List, [], length, take, drop, every, allZero, isIn, allDifferent}
 use Rattle.rules.specs.Hall.{mostHeld, mostSales, Carnet, View, Till, Line, number}
 use Rattle.rules.specs.Records.{words, inUse, amount, count, sales, cells, held, filled, made}
 use Rattle.rules.specs.Sound.{shaped, deskGood, bare, lineGood, placeGood, recordGood}
 use Rattle.rules.proofs.Tests.{parts, whole, true-and}
+use Rattle.laws.proofs.Zeros.{zero-at}
 use Rattle.laws.proofs.Made.{filled-is}
 
 -- ---- every record
@@ -34,11 +35,28 @@ pub record Shaped (r : List ℕ) : Type 0 where
   pub flag : inUse r ≤ 1
   pub short : count r ≤ mostHeld
   pub past : allZero (drop (count r) (cells r)) ≡ true
+  pub blank : inUse r ≡ 0 → allZero r ≡ true
+
+one-of : (a b : Bool) → a || b ≡ true → a ≡ false → b ≡ true
+one-of true b e n = cc
+one-of false b e n = e
 
 module _ (r : List ℕ) where
   pub shaped-facts : shaped r ≡ true → Shaped r
   unfolding shaped
-  shaped-facts e = record { flag = search parts; short = search parts; past = search parts }
+  shaped-facts e =
+      let used : eqb (inUse r) 1 || allZero r ≡ true = search parts in
+      record {
+        flag = search parts;
+        short = search parts;
+        past = search parts;
+        blank = λ z. one-of (eqb (inUse r) 1) (allZero r) used (ne-eqb (inUse r) 1 (λ o. omega arith));
+      }
+
+  -- a record that isn't in use has no money and no tokens
+  pub no-use : shaped r ≡ true → inUse r ≡ 0 → (amount r ≡ 0) × (count r ≡ 0)
+  unfolding amount count
+  no-use s z = let zero = shaped-facts s .blank z in (zero-at r zero 1, zero-at r zero 2)
 
   pub held-none : count r ≡ 0 → held r ≡ []
   unfolding held

@@ -1,13 +1,13 @@
--- Blocks of n words in one list: what stands in block k, after block k was put, and a list by its blocks.
+-- Blocks of n words in one list: what stands in block k, after block k was put or one of its words changed, and a list by its blocks.
 use mathlib.Core.Path.{_≡_, sym, ap, _∙_}
 use mathlib.Core.Logic.{⊎-elim}
 use Prim.Native.Nat.{_≤_, _<_}
 use native.Mathlib.Nat.{mul-le-mul-left}
 use native.Mathlib.Omega.{arith}
 use lib.ListN.{length-append, length-take, length-drop, take-append-drop, drop-of-length-le}
-use lib.Seq.{take-at, drop-at, take-append-le, drop-append-le, drop-drop, length-take-le}
-use Rattle.rules.specs.Lists.{ℕ, zero, suc, _+_, _*_, _-_, List, [], _++_, length, take, drop}
-use Rattle.rules.specs.Records.{blockAt, putBlock}
+use lib.Seq.{take-at, drop-at, take-append-le, drop-append-le, drop-drop, length-take-le, take-set-le, drop-set-add, set-append-left}
+use Rattle.rules.specs.Lists.{ℕ, zero, suc, _+_, _*_, _-_, List, [], _++_, length, take, drop, set}
+use Rattle.rules.specs.Records.{withWord, blockAt, putBlock}
 use Rattle.rules.proofs.Tests.{below}
 
 -- a part that ends within p does not see what follows p
@@ -63,6 +63,19 @@ block-back n k b =
     ap (λ (x : List ℕ). take (n * k) b ++ (take n (drop (n * k) b) ++ x)) (sym (drop-drop n (n * k) b))
     ∙ ap (λ (x : List ℕ). take (n * k) b ++ x) (take-append-drop n (drop (n * k) b))
     ∙ take-append-drop (n * k) b
+
+-- one word of block k changed where it stands in the list
+pub block-word : (n k w x : ℕ) (b : List ℕ) → n * k + n ≤ length b → w < n → set b (n * k + w) x ≡ putBlock n k (withWord w x (blockAt n k b)) b
+unfolding blockAt putBlock withWord
+block-word n k w x b fits l =
+    let r : List ℕ = take n (drop (n * k) b) in
+    let size : w < length r = simp (length-take, length-drop) (omega arith) in
+    sym (take-append-drop (n * k) (set b (n * k + w) x))
+    ∙ rw (take-set-le (n * k) b (n * k + w) x (omega arith), drop-set-add (n * k) b w x)
+    (ap (λ (y : List ℕ). take (n * k) b ++ y)
+    (ap (λ (y : List ℕ). set y w x) (sym (take-append-drop n (drop (n * k) b)))
+    ∙ set-append-left r (drop n (drop (n * k) b)) w x size
+    ∙ ap (λ (y : List ℕ). set r w x ++ y) (drop-drop n (n * k) b)))
 
 -- ---- a list by its blocks
 pub block-long : (n k : ℕ) (b : List ℕ) → n * k + n ≤ length b → length (blockAt n k b) ≡ n

@@ -12,7 +12,7 @@ use Rattle.rules.specs.Steps.{Change, _≔_, putAll}
 use Rattle.rules.proofs.Tests.{same, and-left, and-right}
 use Rattle.rules.proofs.Named.{Each}
 use Rattle.laws.proofs.Sums.{sum-weighed}
-use Rattle.laws.proofs.Blocks.{block-same, block-other, block-length}
+use Rattle.laws.proofs.Blocks.{block-same, block-other, block-length, block-long}
 use Rattle.laws.proofs.Places.{Inside, inside-below, Group, samePlace, Same, Differ, apart-or-same}
 
 -- the record at a place
@@ -65,6 +65,9 @@ lookup-old old old′ q e [] = e
 lookup-old old old′ q e ((p ≔ r) ∷ cs) = ap (cond (samePlace q p) r) (lookup-old old old′ q e cs)
 
 module _ (h : Hall) where
+  pub at-long : (b : List ℕ) → length b ≡ words * records h → (p : Place) → Inside h p → length (at h b p) ≡ words
+  at-long b long p i = block-long words (number h p) b (omega (arith, inside-below h p i))
+
   -- ---- one change
   module _ (b : List ℕ) (long : length b ≡ words * records h) (p : Place) (r : List ℕ) (fit : Fit h p r) where
     abbrev b₁ : List ℕ

@@ -1,11 +1,12 @@
--- Records that are filled and made: their words, their tokens, and the record that is filled from its own words.
+-- Records that are filled and made, or have one word changed: their words, their tokens, and the record that is filled from its own words.
 use mathlib.Core.Path.{_≡_, refl, sym, ap, _∙_}
-use Prim.Native.Nat.{_≤_}
+use Prim.Native.Nat.{_≤_, _<_}
 use native.Mathlib.Omega.{arith}
-use lib.ListN.{length-append, length-take, length-drop, length-replicate, take-append-drop}
+use lib.ListN.{length-append, length-take, length-drop, length-set, length-replicate, take-append-drop}
+use lib.Seq.{getD-set-same, getD-set-other, set-getD, drop-set-lt}
 use Rattle.rules.specs.Lists.{ℕ, _-_, true, List, _∷_, _++_, length, take, drop, getD, replicate, allZero}
 use Rattle.rules.specs.Hall.{mostHeld}
-use Rattle.rules.specs.Records.{words, inUse, amount, count, sales, cells, held, filled, made}
+use Rattle.rules.specs.Records.{words, inUse, amount, count, sales, cells, held, filled, made, withWord, withAmount}
 use Rattle.rules.proofs.Stepping.{filled-held}
 use Rattle.rules.proofs.Words.{four-first}
 use Rattle.laws.proofs.Zeros.{zero-zeros}
@@ -55,6 +56,54 @@ module _ (a s : ℕ) (ts : List ℕ) where
   pub made-long : length ts ≤ mostHeld → length (made a s ts) ≡ words
   unfolding made
   made-long = filled-long 1 a (length ts) s ts
+
+-- ---- word w changed to x: it is x, and all else stays
+module _ (w x : ℕ) (r : List ℕ) where
+  pub with-long : length (withWord w x r) ≡ length r
+  unfolding withWord
+  with-long = length-set r w x
+
+  pub with-here : w < length r → getD (withWord w x r) w 0 ≡ x
+  unfolding withWord
+  with-here l = getD-set-same r w x 0 l
+
+  pub with-other : (v : ℕ) → (v ≡ w → ⊥) → getD (withWord w x r) v 0 ≡ getD r v 0
+  unfolding withWord
+  with-other v ne = getD-set-other r w v x 0 ne
+
+  pub with-rest : (n : ℕ) → w < n → drop n (withWord w x r) ≡ drop n r
+  unfolding withWord
+  with-rest n l = drop-set-lt n r w x l
+
+  pub with-held : w < 4 → (2 ≡ w → ⊥) → held (withWord w x r) ≡ held r
+  unfolding held count
+  with-held l ne = rw (with-other 2 ne, with-rest 4 l)
+
+-- changed to what it is
+pub with-own : (w : ℕ) (r : List ℕ) → withWord w (getD r w 0) r ≡ r
+unfolding withWord
+with-own w r = set-getD r w 0
+
+-- ---- another amount
+module _ (a : ℕ) (r : List ℕ) where
+  pub amount-use : inUse (withAmount a r) ≡ inUse r
+  unfolding inUse
+  amount-use = with-other 1 a r 0 (λ q. omega arith)
+
+  pub amount-is : 1 < length r → amount (withAmount a r) ≡ a
+  unfolding amount
+  amount-is l = with-here 1 a r l
+
+  pub amount-count : count (withAmount a r) ≡ count r
+  unfolding count
+  amount-count = with-other 1 a r 2 (λ q. omega arith)
+
+  pub amount-sales : sales (withAmount a r) ≡ sales r
+  unfolding sales
+  amount-sales = with-other 1 a r 3 (λ q. omega arith)
+
+  pub amount-held : held (withAmount a r) ≡ held r
+  amount-held = with-held 1 a r (omega arith) (λ q. omega arith)
 
 -- a record that is zero past its first k cells is filled from its four words and those cells
 pub filled-is : (r : List ℕ) (k : ℕ) → length r ≡ words → k ≤ mostHeld → allZero (drop k (cells r)) ≡ true

@@ -6,7 +6,7 @@ use native.Mathlib.Nat.{mul-le-mul-left}
 use native.Mathlib.Omega.{arith}
 use borrow.Author.Tests.{eq-eqb, ne-eqb}
 use Rattle.rules.specs.declared.Hall.{Hall}
-use Rattle.rules.specs.Lists.{ℕ, zero, suc, _+_, _*_, Bool, true, false, _&&_, eqb, List, range, occ}
+use Rattle.rules.specs.Lists.{ℕ, zero, suc, _+_, _*_, Bool, true, false, _&&_, eqb, List, occ}
 use Rattle.rules.specs.Hall.{Place, Desk, Carnet, View, BenchView, Till, Line, number, records, carnets, lines, spendable, customerViews, views}
 use Rattle.rules.proofs.Tests.{same, below}
 use Rattle.laws.proofs.Occurrences.{occ-append}
@@ -235,12 +235,3 @@ seesCustomer-group h (View c) i = occ-within _ _ _ (omega arith) (omega arith)
 seesCustomer-group h (BenchView m) i = occ-past _ _ _ (omega arith)
 seesCustomer-group h (Till m) i = occ-past _ _ _ (omega arith)
 seesCustomer-group h (Line m c) i = occ-past _ _ _ (omega arith)
-
--- ---- the groups as code numbers them
-pub lines-are : (h : Hall) → range (1 + 2 * h .customers + 2 * h .benches) (h .customers * h .benches) ≡ lines h
-lines-are h =
-    let e : 1 + 2 * h .customers + 2 * h .benches ≡ number h (Line 0 0) = omega arith in
-    ap (λ (a : ℕ). range a (h .customers * h .benches)) e
-
-pub views-are : (h : Hall) (n : ℕ) → range (1 + h .customers) n ≡ range (number h (View 0)) n
-views-are h n = let e : 1 + h .customers ≡ number h (View 0) = omega arith in ap (λ (a : ℕ). range a n) e

@@ -10,7 +10,7 @@ use Rattle.rules.specs.Lists.{ℕ, zero, suc, _+_, _*_, true, leb, eqb, min, Li
 use Rattle.rules.specs.declared.Hall.{Hall}
 use Rattle.rules.specs.Hall.{mostBudget, Place, Carnet, View, BenchView, Till, Line, number, records, spendable, customerViews, views}
 use Rattle.rules.specs.Records.{words, inUse, amount, count, held, blockAt, recordAt, cut, rows}
-use Rattle.rules.specs.Sound.{goodList, fits, recordGood, partiesGood, onceIn, moneyGood, soundBy, sound}
+use Rattle.rules.specs.Sound.{goodList, fits, recordGood, partiesGood, onceIn, total, moneyGood, soundBy, sound}
 use Rattle.rules.proofs.Tests.{below, parts, true-and}
 use Rattle.laws.proofs.Groups.{every-range, range-every}
 use Rattle.laws.proofs.Occurrences.{occ-joined, different-once, once-different}
@@ -80,7 +80,7 @@ pub record Sound (h : Hall) (ts : List ℕ) (at : ℕ → List ℕ) : Type 0 whe
   pub parties : Parties h (λ p. inUse (at (number h p)))
   pub spent : (t : ℕ) → sumOf (λ k. occ t (held (at k))) (spendable h) ≤ 1
   pub viewed : (t : ℕ) → sumOf (λ k. occ t (held (at k))) (views h) ≤ 1
-  pub money : sumOf (λ k. amount (at k)) (views h) + sumOf (λ k. count (at k)) (customerViews h)
+  pub money : total h at
       ≤ mostBudget * sumOf (λ k. inUse (at k)) (customerViews h)
 
 module _ (at : ℕ → List ℕ) (group : List ℕ) where

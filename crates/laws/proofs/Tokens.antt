@@ -102,11 +102,11 @@ without-short ys (x ∷ xs) = go (isIn x ys) (without-short ys xs)
     go false l = omega arith
 
 -- one number more is struck
-without-one : (y : ℕ) (ys xs : List ℕ) → occ y ys ≡ 0 → length (without (y ∷ ys) xs) + occ y xs ≤ length (without ys xs)
+without-one : (y : ℕ) (ys xs : List ℕ) → occ y ys ≡ 0 → length (without (y ∷ ys) xs) + occ y xs ≡ length (without ys xs)
 unfolding without occ
 without-one y ys [] z = omega arith
 without-one y ys (x ∷ xs) z =
-    let ih : length (without (y ∷ ys) xs) + occ y xs ≤ length (without ys xs) = without-one y ys xs z in
+    let ih : length (without (y ∷ ys) xs) + occ y xs ≡ length (without ys xs) = without-one y ys xs z in
     ⊎-elim
     (λ (e : x ≡ y).
     let inn : isIn x (y ∷ ys) ≡ true = lt-ltb 0 (occ x (y ∷ ys)) (omega (arith, occ-equal x y ys e)) in
@@ -119,19 +119,25 @@ without-one y ys (x ∷ xs) z =
     (same x y)
   where
     Left : Bool → Bool → Type 0
-    Left a b = length (cond a (without (y ∷ ys) xs) (x ∷ without (y ∷ ys) xs)) + occ y (x ∷ xs) ≤ length (cond b (without ys xs) (x ∷ without ys xs))
+    Left a b = length (cond a (without (y ∷ ys) xs) (x ∷ without (y ∷ ys) xs)) + occ y (x ∷ xs) ≡ length (cond b (without ys xs) (x ∷ without ys xs))
 
-    struck : (a b : Bool) → a ≡ true → b ≡ false → length (without (y ∷ ys) xs) + occ y xs ≤ length (without ys xs) → occ y (x ∷ xs) ≡ suc (occ y xs) → Left a b
+    struck : (a b : Bool) → a ≡ true → b ≡ false → length (without (y ∷ ys) xs) + occ y xs ≡ length (without ys xs) → occ y (x ∷ xs) ≡ suc (occ y xs) → Left a b
     struck a b p q l o = rw (p, q) (omega arith)
 
-    kept : (b a : Bool) → a ≡ b → length (without (y ∷ ys) xs) + occ y xs ≤ length (without ys xs) → occ y (x ∷ xs) ≡ occ y xs → Left a b
+    kept : (b a : Bool) → a ≡ b → length (without (y ∷ ys) xs) + occ y xs ≡ length (without ys xs) → occ y (x ∷ xs) ≡ occ y xs → Left a b
     kept true a p l o = rw p (omega arith)
     kept false a p l o = rw p (omega arith)
 
-pub without-length : (ys xs : List ℕ) → allDifferent ys ≡ true → every (λ t. isIn t xs) ys ≡ true → length (without ys xs) + length ys ≤ length xs
+without-nothing : (xs : List ℕ) → length (without [] xs) ≡ length xs
+unfolding without occ
+without-nothing [] = refl
+without-nothing (x ∷ xs) = ap suc (without-nothing xs)
+
+-- numbers that all stand in a list without repeats are struck from it, each once
+pub without-length : (ys xs : List ℕ) → allDifferent ys ≡ true → every (λ t. isIn t xs) ys ≡ true → ((t : ℕ) → occ t xs ≤ 1) → length (without ys xs) + length ys ≡ length xs
 unfolding allDifferent every
-without-length [] xs d e = omega (arith, without-short [] xs)
-without-length (y ∷ ys) xs d e =
+without-length [] xs d e once = omega (arith, without-nothing xs)
+without-length (y ∷ ys) xs d e once =
     let z : occ y ys ≡ 0 = eqb-true _ _ (and-left (eqb (occ y ys) 0) _ d) in
     let o : 0 < occ y xs = ltb-true _ _ (and-left (isIn y xs) _ e) in
-    omega (arith, without-one y ys xs z, without-length ys xs (and-right (eqb (occ y ys) 0) _ d) (and-right (isIn y xs) _ e))
+    omega (arith, once y, without-one y ys xs z, without-length ys xs (and-right (eqb (occ y ys) 0) _ d) (and-right (isIn y xs) _ e) once)

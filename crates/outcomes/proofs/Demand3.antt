@@ -7,14 +7,14 @@ use Rattle.rules.specs.Bytes.{makeEmpty}
 use Rattle.rules.specs.Sound.{goodList, emptyBook}
 use Rattle.rules.specs.Form.{plain}
 use Rattle.rules.specs.Slips.{slip}
-use Rattle.rules.specs.Verdicts.{Ran, run}
+use Rattle.rules.specs.Verdicts.{RunGives, run}
 use Rattle.rules.proofs.Answering.{answer-granted}
-use Rattle.lines.specs.Forms.{formOf}
-use Rattle.lines.specs.declared.Form.{Form}
-use Rattle.lines.specs.declared.Form.the-variants.{Plain, Slip}
+use Rattle.book.specs.Forms.{formOf}
+use Rattle.book.specs.declared.forms.Form.{Form}
+use Rattle.book.specs.declared.forms.Form.the-variants.{Plain, Slip}
 use Rattle.agree.proofs.Agree.{Agree}
 use Rattle.agree.proofs.Agreement.{run-agreement}
-use Rattle.writer.proofs.make_empty.Reads as make-empty
+use Rattle.book.proofs.writing.make_empty.Reads as make-empty
 use Rattle.desk.proofs.run.Reads as desk-run
 
 -- a call of `make_empty` that answered 0 and left the book b
@@ -48,19 +48,16 @@ verdictsAfter c = c .exit .1 .1 .1 .1 .0 .now
 
 emptied : (b : List ℕ) → Emptied b → b ≡ emptyBook mainHall
 unfolding makeEmpty
-emptied b e = sym (e .left) ∙ e .promised .1 ∙ answer-granted _ _ _ (sym (e .promised .0) ∙ e .granted)
-
-abbrev Gives : Ran → ℕ → List ℕ → List ℕ → Type 0
-Gives r n b out = (n ≡ r .answer) × (b ≡ r .book) × (out ≡ r .verdicts)
+emptied b e = sym (e .left) ∙ e .promised .cells ∙ answer-granted _ _ _ (sym (e .promised .number) ∙ e .granted)
 
 -- a run over values is the run over equal ones
 run-of-equals : (f f′ : Form) (ts ts′ b b′ tape tape′ out out′ : List ℕ) (n : ℕ) (c v : List ℕ)
     → f ≡ f′ → ts ≡ ts′ → b ≡ b′ → tape ≡ tape′ → out ≡ out′
-    → Gives (run (formOf f) mainHall ts b tape out) n c v → Gives (run (formOf f′) mainHall ts′ b′ tape′ out′) n c v
+    → RunGives (run (formOf f) mainHall ts b tape out) n c v → RunGives (run (formOf f′) mainHall ts′ b′ tape′ out′) n c v
 run-of-equals f f′ ts ts′ b b′ tape tape′ out out′ n c v p q r s t g = rw (sym p, sym q, sym r, sym s, sym t) g
 
 from-empty : (f : Form) (ts b tape out : List ℕ) → Emptied b → (c : Called f ts b tape out)
-    → Gives (run (formOf f) mainHall ts (emptyBook mainHall) tape out) (c .result) (bookAfter c) (verdictsAfter c)
+    → RunGives (run (formOf f) mainHall ts (emptyBook mainHall) tape out) (c .result) (bookAfter c) (verdictsAfter c)
 from-empty f ts b tape out e c =
     run-of-equals _ f _ ts _ (emptyBook mainHall) _ tape _ out _ _ _ (c .form) (c .list) (c .book ∙ emptied b e) (c .tape-lent) (c .buffer) (c .promised)
 
@@ -71,4 +68,4 @@ demand-3 ts good tape out p s ep es x y =
     let both = run-agreement mainHall ts good tape out in
     let gx = from-empty Plain ts p tape out ep x in
     let gy = from-empty Slip ts s tape out es y in
-    (gx .0 ∙ both .answers ∙ sym (gy .0), gx .2 ∙ both .verdicts ∙ sym (gy .2), rw (gx .1, gy .1) (both .books))
+    (gx .answer ∙ both .answers ∙ sym (gy .answer), gx .verdicts ∙ both .verdicts ∙ sym (gy .verdicts), rw (gx .book, gy .book) (both .books))

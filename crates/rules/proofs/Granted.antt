@@ -14,25 +14,16 @@ use Rattle.rules.specs.Form.{Form}
 use Rattle.rules.specs.Steps.{left, theCarnet, theView, theBenchView, theTill, theLine}
 use Rattle.rules.specs.Verdicts.{used, table, verdict}
 use Rattle.rules.proofs.Tests.{below, and-false, or-left, or-right, parts}
-use Rattle.rules.proofs.Answering.{AllFalse, all-false}
-
--- ---- by the kind of a step
-pub kinds : (P : ℕ → Type 0) → P 1 → P 2 → P 3 → P 4 → P 5 → P 6 → P 7 → P 8 → P 9 → (k : ℕ) → 1 ≤ k → k ≤ 9 → P k
-kinds P a b c d e f g h i zero l u = absurd (omega arith)
-kinds P a b c d e f g h i (suc zero) l u = a
-kinds P a b c d e f g h i (suc (suc zero)) l u = b
-kinds P a b c d e f g h i (suc (suc (suc zero))) l u = c
-kinds P a b c d e f g h i (suc (suc (suc (suc zero)))) l u = d
-kinds P a b c d e f g h i (suc (suc (suc (suc (suc zero))))) l u = e
-kinds P a b c d e f g h i (suc (suc (suc (suc (suc (suc zero)))))) l u = f
-kinds P a b c d e f g h i (suc (suc (suc (suc (suc (suc (suc zero))))))) l u = g
-kinds P a b c d e f g h i (suc (suc (suc (suc (suc (suc (suc (suc zero)))))))) l u = h
-kinds P a b c d e f g h i (suc (suc (suc (suc (suc (suc (suc (suc (suc zero))))))))) l u = i
-kinds P a b c d e f g h i (suc (suc (suc (suc (suc (suc (suc (suc (suc (suc n)))))))))) l u = absurd (omega arith)
+use Rattle.rules.proofs.Answering.{testOf, passed}
+use Rattle.rules.proofs.ByKind.{IsKind}
 
 -- a number that is used is one of the hall
 inside : (u : Bool) (x y : ℕ) → not u || ltb x y ≡ true → u ≡ true → x < y
 inside u x y e p = ltb-true x y (rw p at e)
+
+pub formed-kind : (e : Entry) → wellFormed e ≡ true → IsKind (e .kind)
+unfolding wellFormed
+formed-kind e w = record { from = search parts depth 8; to = search parts depth 8 }
 
 module _ (h : Hall) (e : Entry) (placed : inHall h e ≡ true) where
   pub inside-hall-bench : usesBench (e .kind) ≡ true → e .bench < h .benches
@@ -44,32 +35,27 @@ module _ (h : Hall) (e : Entry) (placed : inHall h e ≡ true) where
   inside-hall-customer u = inside (usesCustomer (e .kind)) (e .customer) (h .customers) (search parts) u
 
 module _ (f : Form) (h : Hall) (ts b : List ℕ) (e : Entry) (v : verdict f h ts b e ≡ 0) where
-  tests : AllFalse (table f h ts b e)
+  tests : (n : ℕ) → testOf n (table f h ts b e) ≡ false
   unfolding verdict table entryRules
-  tests = all-false (table f h ts b e) refl v
+  tests = passed (table f h ts b e) refl v
 
   -- 1
   pub granted-good : f .good h ts b ≡ true
   unfolding table
-  granted-good = not-false _ (tests .0)
+  granted-good = not-false _ (tests 1)
 
   -- 2
   formed : wellFormed e ≡ true
   unfolding table entryRules
-  formed = not-false _ (tests .1 .0)
+  formed = not-false _ (tests 2)
 
-  pub kind-from : 1 ≤ e .kind
-  unfolding wellFormed
-  kind-from = let w : wellFormed e ≡ true = formed in search parts depth 8
-
-  pub kind-to : e .kind ≤ 9
-  unfolding wellFormed
-  kind-to = let w : wellFormed e ≡ true = formed in search parts depth 8
+  pub granted-kind : IsKind (e .kind)
+  granted-kind = formed-kind e formed
 
   -- 3
   placed : inHall h e ≡ true
   unfolding table entryRules
-  placed = not-false _ (tests .1 .1 .0)
+  placed = not-false _ (tests 3)
 
   pub bench-inside : usesBench (e .kind) ≡ true → e .bench < h .benches
   bench-inside = inside-hall-bench h e placed
@@ -83,7 +69,15 @@ module _ (f : Form) (h : Hall) (ts b : List ℕ) (e : Entry) (v : verdict f h ts
   new-customer k =
       eqb-false _ _ (and-false _ _
       (or-left (is e JoinCustomer && used (theCarnet h b e)) (is e JoinBench && used (theTill h b e))
-      (or-left _ (is e OpenLine && used (theLine h b e)) (tests .1 .1 .1 .0)))
+      (or-left _ (is e OpenLine && used (theLine h b e)) (tests 4)))
+      (eq-eqb _ _ k))
+
+  pub new-bench : e .kind ≡ kindOf JoinBench → inUse (theTill h b e) ≡ 1 → ⊥
+  unfolding table entryRules
+  new-bench k =
+      eqb-false _ _ (and-false _ _
+      (or-right (is e JoinCustomer && used (theCarnet h b e)) (is e JoinBench && used (theTill h b e))
+      (or-left _ (is e OpenLine && used (theLine h b e)) (tests 4)))
       (eq-eqb _ _ k))
 
   -- 5
@@ -91,7 +85,7 @@ module _ (f : Form) (h : Hall) (ts b : List ℕ) (e : Entry) (v : verdict f h ts
       && (usesBench (e .kind) && not (used (theBenchView h b e)) || usesCustomer (e .kind) && not (used (theView h b e)))
       ≡ false
   unfolding table entryRules
-  absent = tests .1 .1 .1 .1 .0
+  absent = tests 5
 
   pub has-bench : kindOf OpenLine ≤ e .kind → usesBench (e .kind) ≡ true → inUse (theBenchView h b e) ≡ 1
   has-bench l u = eqb-true _ _ (not-false _ (and-false _ _ (or-left _ _ (and-false _ _ absent (le-leb _ _ l))) u))
@@ -104,42 +98,42 @@ module _ (f : Form) (h : Hall) (ts b : List ℕ) (e : Entry) (v : verdict f h ts
   -- 6
   pub has-line : is e Sell || is e Clear ≡ true → inUse (theLine h b e) ≡ 1
   unfolding table entryRules
-  has-line k = eqb-true _ _ (not-false _ (and-false _ _ (tests .1 .1 .1 .1 .1 .0) k))
+  has-line k = eqb-true _ _ (not-false _ (and-false _ _ (tests 6) k))
 
   -- 7
   pub join-budget : e .kind ≡ kindOf JoinCustomer → e .amount ≤ mostBudget
   unfolding table entryRules
-  join-budget k = ltb-false _ _ (and-false _ _ (or-left _ _ (tests .1 .1 .1 .1 .1 .1 .0)) (eq-eqb _ _ k))
+  join-budget k = ltb-false _ _ (and-false _ _ (or-left _ _ (tests 7)) (eq-eqb _ _ k))
 
   pub stock-few : e .kind ≡ kindOf Stock → e .amount ≤ mostHeld
   unfolding table entryRules
   stock-few k =
       ltb-false _ _ (and-false _ _
-      (or-right (is e JoinCustomer && ltb mostBudget (e .amount)) _ (tests .1 .1 .1 .1 .1 .1 .0)) (eq-eqb _ _ k))
+      (or-right (is e JoinCustomer && ltb mostBudget (e .amount)) _ (tests 7)) (eq-eqb _ _ k))
 
   -- 8 to 10
   module _ (k : e .kind ≡ kindOf Update) where
     pub update-budget : e .amount ≤ amount (theView h b e)
     unfolding table entryRules
-    update-budget = ltb-false _ _ (and-false _ _ (tests .1 .1 .1 .1 .1 .1 .1 .0) (eq-eqb _ _ k))
+    update-budget = ltb-false _ _ (and-false _ _ (tests 8) (eq-eqb _ _ k))
 
     pub update-room : count (theView h b e) + e .amount ≤ mostHeld
     unfolding table entryRules
-    update-room = ltb-false _ _ (and-false _ _ (tests .1 .1 .1 .1 .1 .1 .1 .1 .0) (eq-eqb _ _ k))
+    update-room = ltb-false _ _ (and-false _ _ (tests 9) (eq-eqb _ _ k))
 
     pub update-left : count (theView h b e) + e .amount ≤ left ts b
     unfolding table entryRules
-    update-left = ltb-false _ _ (and-false _ _ (tests .1 .1 .1 .1 .1 .1 .1 .1 .1 .0) (eq-eqb _ _ k))
+    update-left = ltb-false _ _ (and-false _ _ (tests 10) (eq-eqb _ _ k))
 
   -- 11 and 12
   module _ (k : e .kind ≡ kindOf Sell) where
     pub sell-enough : e .amount ≤ count (theCarnet h b e)
     unfolding table entryRules
-    sell-enough = ltb-false _ _ (and-false _ _ (tests .1 .1 .1 .1 .1 .1 .1 .1 .1 .1 .0) (eq-eqb _ _ k))
+    sell-enough = ltb-false _ _ (and-false _ _ (tests 11) (eq-eqb _ _ k))
 
     full : ltb mostHeld (count (theLine h b e) + e .amount) || ltb 0 (e .amount) && eqb (sales (theLine h b e)) mostSales ≡ false
     unfolding table entryRules
-    full = and-false _ _ (tests .1 .1 .1 .1 .1 .1 .1 .1 .1 .1 .1 .0) (eq-eqb _ _ k)
+    full = and-false _ _ (tests 12) (eq-eqb _ _ k)
 
     pub sell-room : count (theLine h b e) + e .amount ≤ mostHeld
     sell-room = ltb-false _ _ (or-left _ _ full)
@@ -157,4 +151,4 @@ module _ (f : Form) (h : Hall) (ts b : List ℕ) (e : Entry) (v : verdict f h ts
   -- 15
   pub clear-lives : e .kind ≡ kindOf Clear → every (λ t. isIn t (held (theView h b e))) (f .tokens ts (theLine h b e)) ≡ true
   unfolding table entryRules
-  clear-lives k = not-false _ (and-false _ _ (tests .1 .1 .1 .1 .1 .1 .1 .1 .1 .1 .1 .1 .1 .1 .0) (eq-eqb _ _ k))
+  clear-lives k = not-false _ (and-false _ _ (tests 15) (eq-eqb _ _ k))

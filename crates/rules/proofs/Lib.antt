@@ -5,8 +5,10 @@ pub mod Tests
 pub mod Answering
 pub mod Stepping
 pub mod Running
+pub mod Along
 pub mod Words
 pub mod Writing
+pub mod ByKind
 pub mod Granted
 pub mod Named
 pub mod Spent

@@ -1,5 +1,6 @@
 -- No token is given out again: a dealing goes on where the last one ended, and a clear strikes the line's tokens.
 use mathlib.Core.Path.{_≡_, refl, sym, ap, _∙_}
+use Prim.Native.Nat.{_≤_}
 use native.Mathlib.Omega.{arith}
 use lib.Seq.{take-add}
 use borrow.Author.Tests.{ne-eqb, le-ltb, ltb-true, ltb-false}
@@ -7,9 +8,9 @@ use Rattle.rules.specs.declared.Hall.{Hall}
 use Rattle.rules.specs.declared.Entry.{Entry}
 use Rattle.rules.specs.Lists.{ℕ, _+_, Bool, true, false, cond, List, [], _∷_, _++_, length, take, occ, isIn, without}
 use Rattle.rules.specs.Hall.{Place, Desk, Carnet, View, BenchView, Till, Line}
-use Rattle.rules.specs.Records.{amount, held, filled, made, blockAt, putBlock}
+use Rattle.rules.specs.Records.{words, amount, held, made, withWord, blockAt, putBlock}
 use Rattle.rules.specs.Form.{Form}
-use Rattle.rules.specs.Steps.{putAll, dealt, fresh, dealing, clearing, theView, theLine}
+use Rattle.rules.specs.Steps.{putAll, dealt, fresh, dealing, settling, clearing, theView, theLine}
 use Rattle.rules.proofs.Stepping.{filled-held}
 use Rattle.rules.proofs.Named.{Each}
 
@@ -17,9 +18,11 @@ use Rattle.rules.proofs.Named.{Each}
 pub fresh-follows : (ts b : List ℕ) (n : ℕ) → take (dealt b) ts ++ fresh ts b n ≡ take (dealt b + n) ts
 fresh-follows ts b n = sym (take-add (dealt b) n ts)
 
-pub dealing-counted : (h : Hall) (ts b : List ℕ) (own view : Place) (a n : ℕ) → dealt (putAll h (dealing ts b own view a n) b) ≡ dealt b + n
-unfolding putAll dealing made filled putBlock blockAt amount
-dealing-counted h ts b own view a n = refl
+pub dealing-counted : (h : Hall) (ts b : List ℕ) (own view : Place) (a n : ℕ) → words ≤ length b → dealt (putAll h (dealing ts b own view a n) b) ≡ dealt b + n
+unfolding putAll dealing withWord putBlock blockAt amount
+dealing-counted h ts [] own view a n l = absurd (omega arith)
+dealing-counted h ts (x ∷ []) own view a n l = absurd (omega arith)
+dealing-counted h ts (x ∷ y ∷ b) own view a n l = refl
 
 -- what is struck from a list stands in it no more
 struck : (t : ℕ) (gone xs : List ℕ) → isIn t gone ≡ true → occ t (without gone xs) ≡ 0
@@ -44,7 +47,7 @@ Gone t (Till m) r = Unit {0}
 Gone t (Line m c) r = Unit {0}
 
 pub clear-strikes : (f : Form) (h : Hall) (ts b : List ℕ) (e : Entry) (t : ℕ) → isIn t (f .tokens ts (theLine h b e)) ≡ true → Each (Gone t) (clearing h b e f ts)
-unfolding clearing made
+unfolding clearing settling made
 clear-strikes f h ts b e t i =
     let kept : List ℕ = without (f .tokens ts (theLine h b e)) (held (theView h b e)) in (
       ap (isIn t) (filled-held 1 (amount (theView h b e)) (length kept) 0 kept refl)

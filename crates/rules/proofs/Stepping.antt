@@ -1,5 +1,6 @@
 -- A step: refused, it leaves the book; its verdict is a number of the table; what an update reads and what a sale leaves.
-use mathlib.Core.Path.{_≡_, refl}
+use mathlib.Core.Path.{_≡_, refl, sym, _∙_, subst}
+use mathlib.Core.Logic.{⊎-elim}
 use Prim.Native.Nat.{_≤_, _<_}
 use native.Mathlib.Omega.{arith}
 use lib.ListN.{length-append, length-take}
@@ -7,12 +8,13 @@ use lib.Seq.{take-at}
 use Rattle.rules.specs.Lists.{ℕ, suc, _+_, _-_, min, true, List, [], _∷_, _++_, length, take, getD, replicate, range, isIn}
 use Rattle.rules.specs.Hall.{Hall, mostHeld}
 use Rattle.rules.specs.Answers.{answer}
-use Rattle.rules.specs.Records.{amount, count, sales, held, filled}
+use Rattle.rules.specs.Records.{amount, count, sales, held, filled, recordAt}
 use Rattle.rules.specs.Slips.{openSlip, openSlips, slipTokens, slipPairs, slipOf, slip}
 use Rattle.rules.specs.Tape.{Entry, entryRules}
 use Rattle.rules.specs.Form.{Form, plain}
-use Rattle.rules.specs.Steps.{dealt, theCarnet, theView, theLine, dealing, updating, soldLine, effect}
+use Rattle.rules.specs.Steps.{theCarnet, theView, theLine, dealing, updating, soldLine, effect}
 use Rattle.rules.specs.Verdicts.{table, verdict, step}
+use Rattle.rules.proofs.Tests.{same}
 use Rattle.rules.proofs.Answering.{answer-granted, answer-refused, numbers, first-listed}
 
 module _ (f : Form) (h : Hall) (ts b : List ℕ) (e : Entry) where
@@ -28,6 +30,14 @@ module _ (f : Form) (h : Hall) (ts b : List ℕ) (e : Entry) where
   unfolding step answer verdict
   step-verdict = refl
 
+  -- what holds of the book before a step, and after it where it is granted, holds after every step
+  pub step-cases : (P : List ℕ → Type 0) → (verdict f h ts b e ≡ 0 → P (effect f h ts b e)) → P b → P (step f h ts b e .cells)
+  step-cases P granted stays =
+      ⊎-elim
+      (λ (z : step f h ts b e .number ≡ 0). subst P (sym (step-granted z)) (granted (sym step-verdict ∙ z)))
+      (λ (z : step f h ts b e .number ≡ 0 → ⊥). subst P (sym (step-refused z)) stays)
+      (same (step f h ts b e .number) 0)
+
   -- the verdict is a number of the table, or 0; and the table's numbers rise, so that the first that applies is the lowest
   pub verdict-listed : isIn (verdict f h ts b e) (numbers (table f h ts b e)) ≡ true
   unfolding verdict
@@ -37,8 +47,8 @@ module _ (f : Form) (h : Hall) (ts b : List ℕ) (e : Entry) where
   unfolding table entryRules range
   table-numbers = refl
 
--- an update goes by the desk's view and what is dealt, whatever the carnet holds: what was sold and not cleared is not lost
-pub update-reads : (h : Hall) (ts b b′ : List ℕ) (e : Entry) → dealt b ≡ dealt b′ → theView h b e ≡ theView h b′ e → updating h b e ts ≡ updating h b′ e ts
+-- an update goes by the desk's own record and its view, whatever the carnet holds: what was sold and not cleared is not lost
+pub update-reads : (h : Hall) (ts b b′ : List ℕ) (e : Entry) → recordAt 0 b ≡ recordAt 0 b′ → theView h b e ≡ theView h b′ e → updating h b e ts ≡ updating h b′ e ts
 unfolding updating dealing
 update-reads h ts b b′ e d v = rw (d, v)
 

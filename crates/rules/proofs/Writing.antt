@@ -6,13 +6,13 @@ use mathlib.Core.List.{append-nil}
 use lib.ListN.{length-drop}
 use mathlib.Core.Logic.{⊎-elim}
 use borrow.Author.Tests.{eq-eqb, le-leb, lt-leb}
-use Rattle.rules.specs.Lists.{ℕ, _+_, List, [], _∷_, length, take, drop, getD}
+use Rattle.rules.specs.Lists.{ℕ, _+_, false, not, List, [], _∷_, length, take, drop, getD}
 use Rattle.rules.specs.Hall.{Hall}
 use Rattle.rules.specs.Answers.{first, Answer, answer}
 use Rattle.rules.specs.Bytes.{bytesOf, wordOf}
-use Rattle.rules.specs.Tape.{Entry, entryOf, eightBytes, entryRules, Reading, readAt, writeEntry}
+use Rattle.rules.specs.Tape.{Entry, entryOf, eightBytes, wellFormed, inHall, entryRules, Reading, readAt, writeEntry}
 use Rattle.rules.proofs.Tests.{below}
-use Rattle.rules.proofs.Answering.{AllFalse, all-false}
+use Rattle.rules.proofs.Answering.{passed}
 use Rattle.rules.proofs.Words.{Below, byteTop, wordTop, below-drop, four-first, word-back, bytes-back}
 
 pub entry-back : (e : Entry) → e .amount < wordTop → entryOf (eightBytes e) ≡ e
@@ -39,8 +39,9 @@ pub write-entry : (h : Hall) (e : Entry) (out : List ℕ) → first (entryRules 
     → writeEntry h e out ≡ record { number = 0; cells = eightBytes e }
 unfolding writeEntry answer first entryRules
 write-entry h e out good eight =
-    let passed : AllFalse (entryRules h e) = all-false (entryRules h e) refl good in
-    rw (passed .0, passed .1 .0, eq-eqb (length out) 8 eight)
+    let formed : not (wellFormed e) ≡ false = passed (entryRules h e) refl good 2 in
+    let placed : not (inHall h e) ≡ false = passed (entryRules h e) refl good 3 in
+    rw (formed, placed, eq-eqb (length out) 8 eight)
 
 -- what the reader hands back of a whole record
 abbrev got : Hall → ℕ → Entry → Reading

@@ -1,4 +1,5 @@
 -- Answers: the first number of a table whose test holds, and the lent cells afterwards.
+use mathlib.Core.Path.{_≡_}
 use Rattle.rules.specs.Lists.{ℕ, Bool, cond, eqb, List, [], _∷_}
 
 -- a line of a table: the number is given when its test is the first that holds
@@ -17,3 +18,8 @@ pub record Answer : Type 0 where
 -- granted, the lent cells become new; after every number but 0 they are as before
 unfoldable pub answer : List Rule → List ℕ → List ℕ → Answer
 answer rules new old = let n = first rules in record { number = n; cells = cond (eqb n 0) new old }
+
+-- what a promise says: the result is an answer's number, and the lent cells afterwards are its cells
+pub record Gives (a : Answer) (result : ℕ) (after : List ℕ) : Type 0 where
+  pub number : result ≡ a .number
+  pub cells : after ≡ a .cells

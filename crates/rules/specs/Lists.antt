@@ -2,7 +2,7 @@
 pub use mathlib.Core.Bool.{Bool, true, false, cond, not, _&&_, _||_}
 pub use mathlib.Core.List.{List, [], _∷_, _++_}
 pub use Prim.Native.Nat.{ℕ, zero, suc, _+_, _*_, _-_, _/_, _%_, min}
-pub use lib.ListN.{length, take, drop, getD, replicate}
+pub use lib.ListN.{length, take, drop, getD, set, replicate}
 pub use lib.Dec.{leb, ltb, eqb}
 
 -- n numbers from a on

@@ -1,5 +1,5 @@
 -- Records: 36 words each, one after the other, without a header.
-use Rattle.rules.specs.Lists.{ℕ, zero, suc, _+_, _*_, _-_, List, [], _∷_, _++_, length, take, drop, getD, replicate}
+use Rattle.rules.specs.Lists.{ℕ, zero, suc, _+_, _*_, _-_, List, [], _∷_, _++_, length, take, drop, getD, set, replicate}
 use Rattle.rules.specs.Hall.{mostHeld}
 
 abbrev pub words : ℕ
@@ -32,6 +32,13 @@ filled u a n s cs = u ∷ a ∷ n ∷ s ∷ (cs ++ replicate (mostHeld - length 
 -- a record in use, of an amount, sales and tokens
 unfoldable pub made : ℕ → ℕ → List ℕ → List ℕ
 made a s ts = filled 1 a (length ts) s ts
+
+-- a record with one word changed, and all else as it stands; with another amount
+unfoldable pub withWord : ℕ → ℕ → List ℕ → List ℕ
+withWord w x r = set r w x
+
+abbrev pub withAmount : ℕ → List ℕ → List ℕ
+withAmount a r = withWord 1 a r
 
 -- ---- a book: its block k of n words, and the book with another block k
 unfoldable pub blockAt : ℕ → ℕ → List ℕ → List ℕ

@@ -56,11 +56,13 @@ partiesGood h used =
 unfoldable pub onceIn : List ℕ → (ℕ → List ℕ) → Bool
 onceIn group at = allDifferent (joined (λ k. held (at k)) group)
 
--- the money: what customers have left, what they carry and what benches earned came from the customers who joined
+-- the money: what customers have left, what they carry and what benches earned
+abbrev pub total : Hall → (ℕ → List ℕ) → ℕ
+total h at = sumOf (λ k. amount (at k)) (views h) + sumOf (λ k. count (at k)) (customerViews h)
+
+-- it came from the customers who joined
 unfoldable pub moneyGood : Hall → (ℕ → List ℕ) → Bool
-moneyGood h at =
-    leb (sumOf (λ k. amount (at k)) (views h) + sumOf (λ k. count (at k)) (customerViews h))
-    (mostBudget * sumOf (λ k. inUse (at k)) (customerViews h))
+moneyGood h at = leb (total h at) (mostBudget * sumOf (λ k. inUse (at k)) (customerViews h))
 
 unfoldable pub soundBy : Hall → List ℕ → (ℕ → List ℕ) → Bool
 soundBy h ts at =

@@ -1,7 +1,7 @@
 -- Steps when granted: the records that a step writes, in order, each made from the book before the step.
 use Rattle.rules.specs.Lists.{ℕ, _+_, _-_, min, List, [], _∷_, _++_, length, take, drop, getD, without}
 use Rattle.rules.specs.Hall.{Hall, Place, Desk, Carnet, View, BenchView, Till, Line, number}
-use Rattle.rules.specs.Records.{amount, count, sales, held, filled, made, recordAt, put}
+use Rattle.rules.specs.Records.{amount, count, sales, held, filled, made, withAmount, recordAt, put}
 use Rattle.rules.specs.Tape.{Entry}
 use Rattle.rules.specs.Form.{Form}
 
@@ -29,10 +29,13 @@ fresh ts b n = take n (drop (dealt b) ts)
 unfoldable pub joining : Place → Place → ℕ → List Change
 joining own view a = (own ≔ made 0 0 []) ∷ (view ≔ made a 0 []) ∷ []
 
--- n fresh tokens replace what both held; the view's amount becomes a
+-- n fresh tokens replace what both held, and the desk counts them as dealt; the view's amount becomes a
 unfoldable pub dealing : List ℕ → List ℕ → Place → Place → ℕ → ℕ → List Change
 dealing ts b own view a n =
-    (own ≔ made 0 0 (fresh ts b n)) ∷ (view ≔ made a 0 (fresh ts b n)) ∷ (Desk ≔ made (dealt b + n) 0 []) ∷ []
+    (own ≔ made 0 0 (fresh ts b n))
+    ∷ (view ≔ made a 0 (fresh ts b n))
+    ∷ (Desk ≔ withAmount (dealt b + n) (recordAt 0 b))
+    ∷ []
 
 module _ (h : Hall) (b : List ℕ) (e : Entry) where
   -- ---- the records that a step names
@@ -81,13 +84,17 @@ module _ (h : Hall) (b : List ℕ) (e : Entry) where
       ∷ (BenchView (e .bench) ≔ made (amount theBenchView) 0 (drop 1 (held theBenchView)))
       ∷ []
 
-  -- the bench is paid for each token of the line, which then is spent for good
-  unfoldable pub clearing : Form → List ℕ → List Change
-  clearing f ts =
-      (View (e .customer) ≔ made (amount theView) 0 (without (f .tokens ts theLine) (held theView)))
-      ∷ (BenchView (e .bench) ≔ made (amount theBenchView + count theLine) 0 (held theBenchView))
+  -- the tokens that are gone are struck from the view, the bench is paid for each of them, and the line holds none
+  unfoldable pub settling : List ℕ → List Change
+  settling gone =
+      (View (e .customer) ≔ made (amount theView) 0 (without gone (held theView)))
+      ∷ (BenchView (e .bench) ≔ withAmount (amount theBenchView + length gone) theBenchView)
       ∷ (Line (e .bench) (e .customer) ≔ made 0 0 [])
       ∷ []
+
+  -- the tokens that the line stands for are spent for good
+  unfoldable pub clearing : Form → List ℕ → List Change
+  clearing f ts = settling (f .tokens ts theLine)
 
   -- what a granted step of kind k changes: the table of kinds, from 0 on, which is none
   unfoldable pub changes : Form → List ℕ → ℕ → List Change

@@ -34,6 +34,10 @@ kindOf BenchAuthenticates = 7
 kindOf DeskAuthenticates = 8
 kindOf Clear = 9
 
+-- they are numbered from 1 to this
+abbrev pub lastKind : ℕ
+lastKind = 9
+
 abbrev pub is : Entry → Kind → Bool
 is e k = eqb (e .kind) (kindOf k)
 
@@ -48,10 +52,10 @@ abbrev pub usesAmount : ℕ → Bool
 usesAmount k = isIn k (1 ∷ 4 ∷ 5 ∷ 6 ∷ [])
 
 -- ---- numbers 2 and 3, of a record by itself
--- the kind is one of the nine; byte 3 is zero, and so is a field that the kind doesn't use
+-- the kind is one of these; byte 3 is zero, and so is a field that the kind doesn't use
 unfoldable pub wellFormed : Entry → Bool
 wellFormed e =
-    leb 1 (e .kind) && leb (e .kind) 9 && eqb (e .byte3) 0
+    leb 1 (e .kind) && leb (e .kind) lastKind && eqb (e .byte3) 0
     && (usesBench (e .kind) || eqb (e .bench) 0)
     && (usesCustomer (e .kind) || eqb (e .customer) 0)
     && (usesAmount (e .kind) || eqb (e .amount) 0)

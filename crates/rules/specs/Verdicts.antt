@@ -1,4 +1,5 @@
 -- Verdict numbers: the table, in its order; a step; a run over a whole tape.
+use mathlib.Core.Path.{_≡_}
 use Rattle.rules.specs.Lists.{ℕ, _+_, _*_, Bool, cond, not, _&&_, _||_, leb, ltb, eqb, List, [], _∷_, _++_, length, getD, every, isIn}
 use Rattle.rules.specs.Hall.{Hall, mostHeld, mostSales, mostBudget}
 use Rattle.rules.specs.Answers.{Rule, _⇐_, first, Answer, answer}
@@ -51,6 +52,12 @@ pub record Ran : Type 0 where
   pub answer : ℕ
   pub verdicts : List ℕ
   pub book : List ℕ
+
+-- what a promise says of a run: its result, and the lent book and verdict buffer afterwards
+pub record RunGives (r : Ran) (result : ℕ) (after buffer : List ℕ) : Type 0 where
+  pub answer : result ≡ r .answer
+  pub verdicts : buffer ≡ r .verdicts
+  pub book : after ≡ r .book
 
 -- the steps in order, with each verdict
 unfoldable pub steps : Form → Hall → List ℕ → List ℕ → List Entry → Ran

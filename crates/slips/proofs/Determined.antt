@@ -15,7 +15,7 @@ is-sound-determined : (κs : _) (a : _) → Determined (is-sound-call.Learnt κs
 is-sound-determined κs a = determined _ _ _ (λ z e p. p)
 
 open-into-of-determined : (κs : _) (a : _) → Determined {O = ℕ × List ℕ} (open-into-of-call.Learnt κs a) (λ z e. (z, e .1 .1 .1 .0 .now))
-open-into-of-determined κs a = determined _ _ _ (λ z e p. both (p .0) (p .1))
+open-into-of-determined κs a = determined _ _ _ (λ z e p. both (p .number) (p .cells))
 
 open-into-determined : (κs : _) (a : _) → Determined {O = ℕ × List ℕ} (open-into-call.Learnt κs a) (λ z e. (z, e .1 .1 .0 .now))
-open-into-determined κs a = determined _ _ _ (λ z e p. both (p .0) (p .1))
+open-into-determined κs a = determined _ _ _ (λ z e p. both (p .number) (p .cells))

@@ -19,7 +19,7 @@ use Rattle.laws.proofs.Asked.{record-shaped, record-place, record-test, Shaped,
 use Rattle.laws.proofs.Opened.{opened-use, opened-amount, opened-count, opened-sales}
 use Rattle.laws.proofs.ReflectSlips.{SlipLine}
 use Rattle.laws.proofs.SlipLines.{tokens-length, open-filled, open-held}
-use Rattle.pairs.specs.Fine.{fine}
+use Rattle.slips.specs.Fine.{fine}
 
 -- ---- good slips
 module _ (ts : List ℕ) (d : ℕ) where

@@ -8,7 +8,7 @@ use Rattle.rules.specs.declared.Hall.{Hall}
 use Rattle.rules.specs.Lists.{ℕ, _+_, _*_, min, Bool, true, false, _&&_, eqb, List, _++_, length, range, every, allDifferent, joined}
 use Rattle.rules.specs.Hall.{mostSales, Place, Carnet, View, Line, number, records, carnets, lines, spendable, views}
 use Rattle.rules.specs.Records.{words, inUse, amount, count, sales, cells, held, recordAt}
-use Rattle.rules.specs.Answers.{first, answer}
+use Rattle.rules.specs.Answers.{first, answer, Gives}
 use Rattle.rules.specs.Sound.{fits, goodList, deskGood, recordGood, partiesGood, onceIn, moneyGood}
 use Rattle.rules.specs.Slips.{slipTokens, openBook, slipsGood, slipLineGood, isRun, slipSound, openInto}
 use Rattle.rules.proofs.Tests.{parts, below, alike, and-left, and-right, true-and, and-no, Chain}
@@ -20,13 +20,13 @@ use Rattle.laws.proofs.Books.{dealt-few, list-different}
 use Rattle.laws.proofs.Opened.{opened-use, opened-amount, opened-count, open-long, open-same, open-line, open-word}
 use Rattle.laws.proofs.ReflectSlips.{SlipLine, slip-line-facts, SlipSound, slip-sound-facts, slip-sound-test}
 use Rattle.laws.proofs.SlipLines.{open-held}
-use Rattle.groups.specs.Together.{heldIn}
-use Rattle.groups.proofs.Grouped.{different-both}
+use Rattle.sound.specs.Together.{heldIn}
+use Rattle.sound.proofs.groups.Grouped.{different-both}
 use Rattle.sound.specs.Accounts.{accountsGood}
 use Rattle.sound.proofs.Whole.{joined-both, clauses}
-use Rattle.pairs.specs.Fine.{fine}
-use Rattle.alone.specs.Alone.{firsts, begunIn, allAlone}
-use Rattle.alone.proofs.Alone.{slips-alone}
+use Rattle.slips.specs.Fine.{fine}
+use Rattle.slips.specs.Alone.{firsts, begunIn, allAlone}
+use Rattle.slips.proofs.alone.Alone.{slips-alone}
 use Rattle.slips.specs.Clauses.{ownGood, apartGood}
 use Rattle.slips.proofs.Lines.{Fine, fine-facts, line-good}
 
@@ -223,23 +223,22 @@ not-fits h ts b ne = rw (ne-eqb (length b) (words * records h) ne)
 -- ---- opened into a lent plain book
 module _ (h : Hall) (ts b out : List ℕ) where
   abbrev refused : Type 0
-  refused = (1 ≡ openInto h ts b out .number) × (out ≡ openInto h ts b out .cells)
+  refused = Gives (openInto h ts b out) 1 out
 
   pub open-short : (length out ≡ words * records h → ⊥) → refused
   unfolding openInto answer first fits
   open-short ne =
       let e : slipSound h ts b && eqb (length out) (words * records h) ≡ false = rw (ne-eqb _ _ ne) (and-no (slipSound h ts b)) in
-      (rw e, rw e)
+      record { number = rw e; cells = rw e }
 
   pub open-refused : slipSound h ts b ≡ false → refused
   unfolding openInto answer first
-  open-refused e = (rw e, rw e)
+  open-refused e = record { number = rw e; cells = rw e }
 
-  pub open-done : slipSound h ts b ≡ true → length out ≡ words * records h → (x : List ℕ) → x ≡ openBook h ts b
-      → (0 ≡ openInto h ts b out .number) × (x ≡ openInto h ts b out .cells)
+  pub open-done : slipSound h ts b ≡ true → length out ≡ words * records h → (x : List ℕ) → x ≡ openBook h ts b → Gives (openInto h ts b out) 0 x
   unfolding openInto answer first fits
   open-done e l x w =
-      let f : eqb (length out) (words * records h) ≡ true = eq-eqb _ _ l in (rw (e, f), w ∙ rw (e, f))
+      let f : eqb (length out) (words * records h) ≡ true = eq-eqb _ _ l in record { number = rw (e, f); cells = w ∙ rw (e, f) }
 
 pub slips-long : (h : Hall) (ts b : List ℕ) → slipSound h ts b ≡ true → length b ≡ words * records h
 slips-long h ts b e = slip-sound-facts h ts b e .long

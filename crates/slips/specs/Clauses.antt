@@ -5,9 +5,9 @@ use Rattle.rules.specs.Hall.{mostSales, Line, number, carnets, lines}
 use Rattle.rules.specs.Records.{sales, cells, recordAt}
 use Rattle.rules.specs.Sound.{recordGood, onceIn}
 use Rattle.rules.specs.Slips.{slipLineGood, isRun}
-use Rattle.groups.specs.Together.{heldIn}
-use Rattle.pairs.specs.Fine.{fine}
-use Rattle.alone.specs.Alone.{begunIn, allAlone}
+use Rattle.sound.specs.Together.{heldIn}
+use Rattle.slips.specs.Fine.{fine}
+use Rattle.slips.specs.Alone.{begunIn, allAlone}
 
 -- each record by itself, with d tokens dealt: those before the lines as in a plain book, the lines, the carnets as runs
 abbrev pub ownGood : Hall → List ℕ → ℕ → List ℕ → Bool

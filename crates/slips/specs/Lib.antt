@@ -1,1 +1,3 @@
+pub mod Fine
+pub mod Alone
 pub mod Clauses

@@ -2,18 +2,25 @@
 ghost use mathlib.Core.Path.{_≡_};
 ghost use Prim.Native.Nat.{_*_, _≤_};
 ghost use lib.ListN.{length};
+ghost use Rattle.rules.specs.Answers.{Gives};
 ghost use Rattle.rules.specs.Hall.{mainHall, records};
 ghost use Rattle.rules.specs.Records.{words};
 ghost use Rattle.rules.specs.Slips.{slipSound, openInto};
 ghost use Rattle.slips.specs.Clauses.{ownGood, apartGood};
+
+pub mod alone;
+pub mod opening;
+pub mod pairs;
+
 use rules::Hall;
+use sound::groups;
 
 // Each record by itself, with d tokens dealt.
 fn are_records_good(h: Hall, list: &[u32], d: usize, book: &[u32]) -> bool
     requires { ⌜ (h .customers ≤ 64) × (h .benches ≤ 64) × (length (now book) ≡ words * records h) ⌝ }
     ensures { λ r. ⌜ r ≡ ownGood h (now (list .entry)) d (now (book .entry)) ⌝ }
 {
-    let lines = 1 + 2 * h.customers + 2 * h.benches;
+    let lines = book::line(h, 0, 0);
     if !sound::are_good(h, list, book, d, lines) {
         return false;
     }
@@ -21,7 +28,7 @@ fn are_records_good(h: Hall, list: &[u32], d: usize, book: &[u32]) -> bool
     if !pairs::are_lines_good(list, d, book, lines, n) {
         return false;
     }
-    pairs::are_runs(list, book, 1, h.customers)
+    pairs::are_runs(list, book, book::carnet(h, 0), h.customers)
 }
 
 // What can still be spent or cleared, in carnets and in opened lines, is all different.
@@ -29,7 +36,7 @@ fn is_spendable_once(h: Hall, list: &[u32], book: &[u32]) -> bool
     requires { ⌜ (h .customers ≤ 64) × (h .benches ≤ 64) × (length (now book) ≡ words * records h) ⌝ }
     ensures { λ r. ⌜ r ≡ apartGood h (now (list .entry)) (now (book .entry)) ⌝ }
 {
-    if !groups::is_once(book, 1, h.customers) {
+    if !groups::is_once(book, book::carnet(h, 0), h.customers) {
         return false;
     }
     alone::are_lines_alone(h, list, book)
@@ -64,7 +71,7 @@ pub fn is_sound(list: &[u32], book: &[u32]) -> bool
 // 1, and the plain book as it was, for an unsound slip book or a plain book of another length.
 pub fn open_into_of(h: Hall, list: &[u32], slips: &[u32], plain: &mut [u32]) -> u8
     requires { ⌜ (h .customers ≤ 64) × (h .benches ≤ 64) ⌝ }
-    ensures { λ r. ⌜ (r ≡ openInto h (now (list .entry)) (now (slips .entry)) (now (plain .entry)) .number) × (now (plain .exit) ≡ openInto h (now (list .entry)) (now (slips .entry)) (now (plain .entry)) .cells) ⌝ }
+    ensures { λ r. ⌜ Gives (openInto h (now (list .entry)) (now (slips .entry)) (now (plain .entry))) r (now (plain .exit)) ⌝ }
 {
     if plain.len() != book::book_words(h) {
         return 1;
@@ -77,7 +84,7 @@ pub fn open_into_of(h: Hall, list: &[u32], slips: &[u32], plain: &mut [u32]) -> 
 }
 
 pub fn open_into(list: &[u32], slips: &[u32], plain: &mut [u32]) -> u8
-    ensures { λ r. ⌜ (r ≡ openInto mainHall (now (list .entry)) (now (slips .entry)) (now (plain .entry)) .number) × (now (plain .exit) ≡ openInto mainHall (now (list .entry)) (now (slips .entry)) (now (plain .entry)) .cells) ⌝ }
+    ensures { λ r. ⌜ Gives (openInto mainHall (now (list .entry)) (now (slips .entry)) (now (plain .entry))) r (now (plain .exit)) ⌝ }
 {
     open_into_of(book::MAIN, list, slips, plain)
 }

@@ -1,17 +1,17 @@
 -- The clauses put together: who is in use with whom, carnets with lines, and the whole test.
 use mathlib.Core.Path.{_≡_, refl, sym, ap, _∙_}
 use mathlib.Core.List.{append-assoc}
+use native.Mathlib.Nat.{add-zero}
 use borrow.Author.Tests.{eq-eqb, ne-eqb}
 use Rattle.rules.specs.declared.Hall.{Hall}
-use Rattle.rules.specs.Lists.{ℕ, _+_, _*_, min, Bool, true, false, _&&_, leb, List, [], _∷_, _++_, length, range, every, allDifferent, joined}
-use Rattle.rules.specs.Hall.{Place, Carnet, Till, Line, number, records, carnets, lines, spendable, views}
+use Rattle.rules.specs.Lists.{ℕ, _*_, min, Bool, true, false, _&&_, leb, List, [], _∷_, _++_, length, range, every, allDifferent, joined}
+use Rattle.rules.specs.Hall.{Place, Carnet, View, BenchView, Till, Line, number, records, carnets, lines, spendable, views}
 use Rattle.rules.specs.Records.{words, inUse, amount, held, recordAt}
 use Rattle.rules.specs.Sound.{goodList, fits, recordGood, partiesGood, onceIn, moneyGood, soundBy, sound}
 use Rattle.rules.proofs.Tests.{and-yes, and-no, Chain}
-use Rattle.laws.proofs.Places.{lines-are}
 use Rattle.laws.proofs.Reflect.{by-rows}
-use Rattle.groups.specs.Together.{apart, paired}
-use Rattle.groups.proofs.Grouped.{different-both}
+use Rattle.sound.specs.Together.{apart, paired, backed}
+use Rattle.sound.proofs.groups.Grouped.{different-both}
 use Rattle.sound.specs.Accounts.{accountsGood}
 
 -- ---- the parties, by their groups
@@ -19,21 +19,21 @@ module _ (h : Hall) (b : List ℕ) where
   abbrev used : Place → ℕ
   used p = inUse (recordAt (number h p) b)
 
-  abbrev customers : Bool
-  customers = paired b 1 (1 + h .customers) (h .customers)
-
-  abbrev benches : Bool
-  benches = paired b (1 + 2 * h .customers + h .benches) (1 + 2 * h .customers) (h .benches)
-
   abbrev joins : Bool
   joins =
       every
       (λ m. every (λ c. leb (used (Line m c)) (min (used (Carnet c)) (used (Till m)))) (range 0 (h .customers)))
       (range 0 (h .benches))
 
-  pub parties-are : Chain (partiesGood h used) true customers benches joins
+  -- bench by bench
+  pub joins-are : every (λ m. backed b (number h (Line m 0)) (number h (Carnet 0)) (used (Till m)) (h .customers)) (range 0 (h .benches)) ≡ joins
+  joins-are = simp add-zero
+
+  pub parties-are : {carnets views tills benches : ℕ}
+      → carnets ≡ number h (Carnet 0) → views ≡ number h (View 0) → tills ≡ number h (Till 0) → benches ≡ number h (BenchView 0)
+      → Chain (partiesGood h used) true (paired b carnets views (h .customers)) (paired b tills benches (h .benches)) joins
   unfolding partiesGood
-  parties-are = record { is = refl }
+  parties-are p q r s = record { is = rw (p, q, r, s) (simp add-zero) }
 
 -- ---- carnets and lines, each group by itself and the one against the other
 abbrev heldBy : (ℕ → List ℕ) → List ℕ → List ℕ
@@ -49,14 +49,12 @@ unfolding onceIn
 once-both at ks js = ap allDifferent (joined-both (λ k. held (at k)) ks js) ∙ different-both (heldBy at ks) (heldBy at js)
 
 module _ (h : Hall) (at : ℕ → List ℕ) where
-  abbrev first : ℕ
-  first = 1 + 2 * h .customers + 2 * h .benches
-
   abbrev all : ℕ
   all = h .customers * h .benches
 
-  pub spendable-is : Chain (onceIn (spendable h) at) true (onceIn (range 1 (h .customers)) at) (apart (heldBy at (range 1 (h .customers))) (heldBy at (range first all))) (onceIn (range first all) at)
-  spendable-is = record { is = rw (lines-are h) (once-both at (carnets h) (lines h)) }
+  pub spendable-is : {own first : ℕ} → own ≡ number h (Carnet 0) → first ≡ number h (Line 0 0)
+      → Chain (onceIn (spendable h) at) true (onceIn (range own (h .customers)) at) (apart (heldBy at (range own (h .customers))) (heldBy at (range first all))) (onceIn (range first all) at)
+  spendable-is p q = record { is = rw (p, q) (once-both at (carnets h) (lines h)) }
 
 -- ---- the whole test, the clauses in the order in which they are made
 shuffle : (g e p s v m : Bool) → ((((g && e) && p) && s) && v) && m ≡ ((((p && v) && m) && g) && e) && s

@@ -1,1 +1,3 @@
+pub mod Kept
+pub mod Together
 pub mod Accounts

@@ -7,7 +7,12 @@ ghost use Rattle.rules.specs.Hall.{mainHall, Carnet, Till, Line, number, record
 ghost use Rattle.rules.specs.Records.{words, inUse, recordAt};
 ghost use Rattle.rules.specs.Sound.{goodList, recordGood, partiesGood, onceIn, moneyGood, sound};
 ghost use Rattle.sound.specs.Accounts.{accountsGood};
+
+pub mod groups;
+pub mod records;
+
 use rules::Hall;
+use tokens::searching;
 
 pub fn is_good_list(list: &[u32]) -> bool
     ensures { λ r. ⌜ r ≡ goodList (now (list .entry)) ⌝ }
@@ -15,7 +20,7 @@ pub fn is_good_list(list: &[u32]) -> bool
     if 4096 < list.len() {
         return false;
     }
-    words::all_different(list)
+    searching::all_different(list)
 }
 
 // Each of the first n records by itself, with d tokens dealt.
@@ -25,7 +30,7 @@ pub fn are_good(h: Hall, list: &[u32], book: &[u32], d: usize, n: usize) -> bool
 {
     let mut k = 0;
     while k < n {
-        if !checks::is_good(h, list, d, k, book::record_at(book, k)) {
+        if !records::is_good(h, list, d, k, book::record_at(book, k)) {
             return false;
         }
         k += 1;
@@ -38,12 +43,12 @@ fn are_lines_joined(h: Hall, book: &[u32]) -> bool
     requires { ⌜ (h .customers ≤ 64) × (h .benches ≤ 64) × (length (now book) ≡ words * records h) ⌝ }
     ensures { λ r. ⌜ r ≡ every (λ m. every (λ c. leb (inUse (recordAt (number h (Line m c)) (now (book .entry)))) (min (inUse (recordAt (number h (Carnet c)) (now (book .entry)))) (inUse (recordAt (number h (Till m)) (now (book .entry)))))) (range 0 (h .customers))) (range 0 (h .benches)) ⌝ }
 {
-    let tills = 1 + 2 * h.customers + h.benches;
-    let lines = 1 + 2 * h.customers + 2 * h.benches;
+    let carnets = book::carnet(h, 0);
     let mut m = 0;
     while m < h.benches {
-        let used = book::word_of(book, tills + m, 0);
-        if !groups::are_backed(book, lines + h.customers * m, 1, used, h.customers) {
+        let used = book::word_of(book, book::till(h, m as u8), 0);
+        let line = book::line(h, m as u8, 0);
+        if !groups::are_backed(book, line, carnets, used, h.customers) {
             return false;
         }
         m += 1;
@@ -56,13 +61,10 @@ fn are_parties_good(h: Hall, book: &[u32]) -> bool
     requires { ⌜ (h .customers ≤ 64) × (h .benches ≤ 64) × (length (now book) ≡ words * records h) ⌝ }
     ensures { λ r. ⌜ r ≡ partiesGood h (λ p. inUse (recordAt (number h p) (now (book .entry)))) ⌝ }
 {
-    let views = 1 + h.customers;
-    if !groups::are_paired(book, 1, views, h.customers) {
+    if !groups::are_paired(book, book::carnet(h, 0), book::view(h, 0), h.customers) {
         return false;
     }
-    let benches = 1 + 2 * h.customers;
-    let tills = 1 + 2 * h.customers + h.benches;
-    if !groups::are_paired(book, tills, benches, h.benches) {
+    if !groups::are_paired(book, book::till(h, 0), book::bench_view(h, 0), h.benches) {
         return false;
     }
     are_lines_joined(h, book)
@@ -73,12 +75,13 @@ fn is_spendable_once(h: Hall, book: &[u32]) -> bool
     requires { ⌜ (h .customers ≤ 64) × (h .benches ≤ 64) × (length (now book) ≡ words * records h) ⌝ }
     ensures { λ r. ⌜ r ≡ onceIn (spendable h) (λ k. recordAt k (now (book .entry))) ⌝ }
 {
-    let lines = 1 + 2 * h.customers + 2 * h.benches;
+    let carnets = book::carnet(h, 0);
+    let lines = book::line(h, 0, 0);
     let n = h.customers * h.benches;
-    if !groups::is_once(book, 1, h.customers) {
+    if !groups::is_once(book, carnets, h.customers) {
         return false;
     }
-    if !groups::are_apart(book, 1, h.customers, lines, n) {
+    if !groups::are_apart(book, carnets, h.customers, lines, n) {
         return false;
     }
     groups::is_once(book, lines, n)
@@ -89,7 +92,7 @@ fn is_money_good(h: Hall, book: &[u32]) -> bool
     requires { ⌜ (h .customers ≤ 64) × (h .benches ≤ 64) × (length (now book) ≡ words * records h) ⌝ }
     ensures { λ r. ⌜ r ≡ moneyGood h (λ k. recordAt k (now (book .entry))) ⌝ }
 {
-    let views = 1 + h.customers;
+    let views = book::view(h, 0);
     let owned = groups::sum_of(book, 1, views, h.customers + h.benches);
     let carried = groups::sum_of(book, 2, views, h.customers);
     let joined = groups::sum_of(book, 0, views, h.customers);
@@ -104,7 +107,7 @@ pub fn are_accounts_good(h: Hall, book: &[u32]) -> bool
     if !are_parties_good(h, book) {
         return false;
     }
-    if !groups::is_once(book, 1 + h.customers, h.customers + h.benches) {
+    if !groups::is_once(book, book::view(h, 0), h.customers + h.benches) {
         return false;
     }
     is_money_good(h, book)
@@ -125,8 +128,7 @@ pub fn is_sound_of(h: Hall, list: &[u32], book: &[u32]) -> bool
         return false;
     }
     let dealt = book::word_of(book, 0, 1) as usize;
-    let n = 1 + 2 * h.customers + 2 * h.benches + h.customers * h.benches;
-    if !are_good(h, list, book, dealt, n) {
+    if !are_good(h, list, book, dealt, book::records(h)) {
         return false;
     }
     is_spendable_once(h, book)

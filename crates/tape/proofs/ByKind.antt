@@ -3,10 +3,10 @@ use mathlib.Core.Path.{_≡_, refl, sym, _∙_}
 use borrow.Author.Tests.{leb-true, not-true, not-false}
 use Rattle.rules.specs.Lists.{ℕ, Bool, true, false, not, leb}
 use Rattle.rules.specs.Answers.{first}
-use Rattle.rules.specs.Tape.{usesBench, usesCustomer, usesAmount, wellFormed, inHall, entryRules}
+use Rattle.rules.specs.Tape.{lastKind, usesBench, usesCustomer, usesAmount, wellFormed, inHall, entryRules}
 use Rattle.rules.specs.declared.Entry.{Entry}
 use Rattle.rules.specs.declared.Hall.{Hall}
-use Rattle.rules.proofs.Granted.{kinds}
+use Rattle.rules.proofs.ByKind.{ByKind, by-kind}
 use Rattle.tape.specs.Fields.{formed, placed, fieldRules}
 
 -- ---- the two tests in their order, as the code makes them
@@ -24,21 +24,21 @@ module _ (h : Hall) (e : Entry) (b c a : Bool) where
   tells-0 x y p q r s = rw (sym p ∙ not-false _ q, sym r ∙ not-false _ s)
 
 -- ---- the kinds
-pub by-kind : (h : Hall) (e : Entry) (k n : ℕ) → leb 1 k ≡ true → leb k 9 ≡ true → e .kind ≡ k
+pub of-kind : (h : Hall) (e : Entry) (k n : ℕ) → leb 1 k ≡ true → leb k lastKind ≡ true → e .kind ≡ k
     → n ≡ first (fieldRules h e (usesBench k) (usesCustomer k) (usesAmount k)) → n ≡ first (entryRules h e)
 unfolding entryRules wellFormed inHall fieldRules formed placed
-by-kind h e k n low high is judged = judged ∙ rw (is, low, high)
+of-kind h e k n low high is judged = judged ∙ rw (is, low, high)
 
 module _ (h : Hall) (e : Entry) where
-  -- none of the nine is the record's
+  -- k isn't the record's kind
   abbrev Not : ℕ → Type 0
   Not k = e .kind ≡ k → ⊥
 
-  pub no-kind : Not 1 → Not 2 → Not 3 → Not 4 → Not 5 → Not 6 → Not 7 → Not 8 → Not 9 → 2 ≡ first (entryRules h e)
+  pub no-kind : ByKind Not → 2 ≡ first (entryRules h e)
   unfolding first entryRules wellFormed
-  no-kind n1 n2 n3 n4 n5 n6 n7 n8 n9 = go (leb 1 (e .kind)) (leb (e .kind) 9) refl refl
+  no-kind not-one = go (leb 1 (e .kind)) (leb (e .kind) lastKind) refl refl
     where
-      go : (a b : Bool) → leb 1 (e .kind) ≡ a → leb (e .kind) 9 ≡ b → 2 ≡ first (entryRules h e)
+      go : (a b : Bool) → leb 1 (e .kind) ≡ a → leb (e .kind) lastKind ≡ b → 2 ≡ first (entryRules h e)
       go false b p q = rw p
       go true false p q = rw (p, q)
-      go true true p q = absurd (kinds Not n1 n2 n3 n4 n5 n6 n7 n8 n9 (e .kind) (leb-true _ _ p) (leb-true _ _ q) refl)
+      go true true p q = absurd (by-kind Not not-one (e .kind) (record { from = leb-true _ _ p; to = leb-true _ _ q }) refl)

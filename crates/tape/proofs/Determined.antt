@@ -18,4 +18,4 @@ read-determined : (κs : _) (a : _) → Determined (read-call.Learnt κs a) (λ 
 read-determined κs a = determined _ _ _ (λ z e p. p)
 
 write-determined : (κs : _) (a : _) → Determined {O = ℕ × List ℕ} (write-call.Learnt κs a) (λ z e. (z, e .1 .1 .0 .now))
-write-determined κs a = determined _ _ _ (λ z e p. both (p .0) (p .1))
+write-determined κs a = determined _ _ _ (λ z e p. both (p .number) (p .cells))

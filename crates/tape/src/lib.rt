@@ -4,7 +4,7 @@ use rules::Hall;
 ghost use mathlib.Core.Path.{_≡_};
 ghost use Prim.Native.Nat.{_+_, _≤_};
 ghost use Rattle.rules.specs.Lists.{_||_, not, leb, ltb, eqb, length, drop};
-ghost use Rattle.rules.specs.Answers.{first};
+ghost use Rattle.rules.specs.Answers.{first, Gives};
 ghost use Rattle.rules.specs.Tape.{entryRules, entryOf, eightBytes, readAt, writeEntry};
 ghost use Rattle.tape.specs.Fields.{formed, placed, fieldRules};
 ghost use Rattle.tape.specs.Reading.{reading};
@@ -188,7 +188,7 @@ fn put_entry(e: Entry, out: &mut [u8])
 
 // Writes the record, or answers why not: what reading would refuse comes before a part that isn't 8 bytes.
 pub fn write(h: Hall, e: Entry, out: &mut [u8]) -> u8
-    ensures { λ r. ⌜ (r ≡ writeEntry h e (now (out .entry)) .number) × (now (out .exit) ≡ writeEntry h e (now (out .entry)) .cells) ⌝ }
+    ensures { λ r. ⌜ Gives (writeEntry h e (now (out .entry))) r (now (out .exit)) ⌝ }
 {
     let refused = judge(h, e);
     let length = out.len();

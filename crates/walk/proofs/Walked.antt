@@ -4,7 +4,7 @@ use native.Mathlib.Omega.{arith}
 use lib.Seq.{take-at}
 use Rattle.rules.specs.Lists.{ℕ, _/_, Bool, true, false, _&&_, leb, List, _++_, length, take, drop}
 use Rattle.rules.specs.Hall.{mainHall}
-use Rattle.rules.specs.Answers.{first, answer}
+use Rattle.rules.specs.Answers.{first, answer, Gives}
 use Rattle.rules.specs.Form.{plain}
 use Rattle.rules.specs.Sound.{goodList, fits, sound, emptyBook}
 use Rattle.rules.specs.Bytes.{makeEmpty}
@@ -33,13 +33,13 @@ module _ (bs out : List ℕ) where
   good e = search parts
 
   -- n bytes were read
-  pub list-good : (n number : ℕ) (new : List ℕ) → n ≡ length bs → number ≡ 0 → (number ≡ readList bs out .number) × (new ≡ readList bs out .cells)
+  pub list-good : (n number : ℕ) (new : List ℕ) → n ≡ length bs → number ≡ 0 → Gives (readList bs out) number new
       → goodList (take (n / 4) new) ≡ true
   list-good n number new size z is =
-      let e : test ≡ true = passed test refl (sym (is .0) ∙ z) in
+      let e : test ≡ true = passed test refl (sym (is .number) ∙ z) in
       let g : listGood bs ≡ true = search parts in
       ap (λ (k : ℕ). goodList (take (k / 4) new)) size
-      ∙ ap (λ (xs : List ℕ). goodList (take (length bs / 4) xs)) (is .1 ∙ laid e)
+      ∙ ap (λ (xs : List ℕ). goodList (take (length bs / 4) xs)) (is .cells ∙ laid e)
       ∙ ap goodList (take-at (listOf bs) (drop (length bs / 4) out) (length bs / 4) (length-toWords (length bs / 4) bs))
       ∙ good g
 

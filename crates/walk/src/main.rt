@@ -8,7 +8,9 @@ ghost use Rattle.rules.specs.Hall.{mainHall};
 ghost use Rattle.rules.specs.Form.{plain};
 ghost use Rattle.rules.specs.Sound.{goodList};
 ghost use Rattle.desk.specs.Known.{Known};
-use lines::Form;
+use book::forms::Form;
+use book::writing;
+use listing::accounts;
 
 // One more token than a list may have: there is no list.
 const NO_LIST: usize = 4097;
@@ -63,7 +65,7 @@ fn walk_some(tokens: &[u32], book: &mut [u32], place: u64) -> usize
     let mut part = [0u8; PART];
     let n = io::read_full(0, &mut part);
     let mut lines = io::large_buffer();
-    let end = walking::walk_part(
+    let end = listing::walk_part(
         Form::Plain,
         book::MAIN,
         tokens,
@@ -116,6 +118,6 @@ fn main() {
         return;
     }
     let mut book = [0u32; 6372];
-    writer::make_empty(&mut book);
+    writing::make_empty(&mut book);
     walk(&list[..n], &mut book);
 }

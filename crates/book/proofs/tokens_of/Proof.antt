@@ -31,10 +31,13 @@ part-result-start c = search needs
 part-result-end : tie.Need-part-result-end
 part-result-end c = search needs
 
+abbrev begun : tie.After-result → tie.Start
+begun c = c .before .before .before .before
+
 returns : tie.Need-returns
 unfolding held
 returns c =
-    let r = c .before .before .before .before .args .rec .now in
+    let r = begun c .args .rec .now in
     ap (λ (n : ℕ). take (4 + n - 4) (drop 4 r))
     (c .before .smaller .ensures ∙ ap (λ (n : ℕ). min n (length r - 4)) (c .before .before .count .ensures))
     ∙ part-most 4 (count r) r

@@ -16,11 +16,14 @@ record-at-requires c κs = search needs
 mul-result : tie.Need-mul-result
 mul-result c = search needs
 
+abbrev begun : tie.After-shared-slice-known2 → tie.Start
+begun c = c .before .before .before
+
 shared-slice-read-result : tie.Need-shared-slice-read-result
-shared-slice-read-result c = omega (arith, block-size words _ _ _ (c .before .before .before .pre .0) (c .before .record-at .ensures))
+shared-slice-read-result c = omega (arith, block-size words _ _ _ (begun c .pre .0) (c .before .record-at .ensures))
 
 returns : tie.Need-returns
-returns c = ap (λ (r : List ℕ). getD r (c .before .before .before .args .w) 0) (c .before .record-at .ensures)
+returns c = ap (λ (r : List ℕ). getD r (begun c .args .w) 0) (c .before .record-at .ensures)
 
 pub word-of-spec : {M : Type 1} → statement M
 word-of-spec = tie.close (tie.spec record-at-requires mul-result shared-slice-read-result returns)

@@ -1,7 +1,7 @@
 -- The test of the form that the code was told.
 use mathlib.Core.Path.{sym, ap, _∙_}
-use Rattle.lines.specs.Forms.{formOf}
-use Rattle.lines.specs.declared.Form.{Form}
+use Rattle.book.specs.Forms.{formOf}
+use Rattle.book.specs.declared.forms.Form.{Form}
 use borrow.Author.Needs.{needs}
 use Rattle.desk.proofs.is_good.Statement.{statement}
 use Rattle.desk.proofs.is_good.Tie as tie
@@ -18,14 +18,20 @@ enum-told-2 c = search needs
 is-sound-of-requires-2 : tie.Need-is-sound-of-requires-2
 is-sound-of-requires-2 c κs = search needs
 
+abbrev begun-from-is-sound-of : tie.After-is-sound-of → tie.Start
+begun-from-is-sound-of c = c .before .before .before .before .before
+
 returns : tie.Need-returns
 returns c =
-    let s = c .before .before .before .before .before .args in
+    let s = begun-from-is-sound-of c .args in
     c .is-sound-of .ensures ∙ ap (λ (f : Form). formOf f .good (s .h) (s .tokens .now) (s .book .now)) (sym (c .before .enum-told .given .1))
+
+abbrev begun-from-is-sound-of2 : tie.After-is-sound-of2 → tie.Start
+begun-from-is-sound-of2 c = c .before .before .before .before .before
 
 returns-2 : tie.Need-returns-2
 returns-2 c =
-    let s = c .before .before .before .before .before .args in
+    let s = begun-from-is-sound-of2 c .args in
     c .is-sound-of2 .ensures ∙ ap (λ (f : Form). formOf f .good (s .h) (s .tokens .now) (s .book .now)) (sym (c .before .enum-told2 .given .1))
 
 pub is-good-spec : {M : Type 1} → statement M

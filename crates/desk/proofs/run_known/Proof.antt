@@ -1,12 +1,13 @@
 -- The invariant is the run's definition: what is done, and then what the rest gives, is the whole run.
-use mathlib.Core.Path.{refl}
+use mathlib.Core.Path.{refl, sym, _∙_}
+use Rattle.rules.specs.Tape.{entries}
+use Rattle.rules.proofs.Running.{steps-answer}
 use Prim.Native.Nat.{_-_}
 use lib.ListN.{length}
-use Rattle.agree.proofs.Ahead.{Ahead, starts, goes-on, ends}
-use Rattle.lines.specs.Forms.{formOf}
-use Rattle.sales.proofs.Stood.{works}
+use Rattle.desk.proofs.Ahead.{Ahead, starts, goes-on, ends}
+use Rattle.book.specs.Forms.{formOf}
+use Rattle.steps.proofs.sales.Stood.{works}
 use native.Mathlib.Omega.{arith}
-use mathlib.Core.Path.{sym, _∙_}
 use borrow.Author.Needs.{needs}
 use Rattle.desk.proofs.run_known.Statement.{statement}
 use Rattle.desk.proofs.run_known.Tie as tie
@@ -17,8 +18,11 @@ Inv-loop form h tokens book₀ tape verdicts₀ i₀ book verdicts i = Ahead (fo
 abbrev μ-loop : tie.MeasureT-loop
 μ-loop form h tokens book₀ tape verdicts₀ i₀ book verdicts i = length verdicts₀ - i
 
+abbrev begun : tie.After-slice-known2 Inv-loop μ-loop → tie.Start Inv-loop μ-loop
+begun c = c .before .before .before .before
+
 loop-holds : tie.Need-loop-holds Inv-loop μ-loop
-loop-holds c = let s = c .before .before .before .before in starts _ _ _ _ _ _ _ (s .pre .0 .good) refl
+loop-holds c = let s = begun c in starts _ _ _ _ _ _ _ (s .pre .0 .good) refl
 
 mul-entry-at : tie.Need-mul-entry-at Inv-loop μ-loop
 mul-entry-at c = search needs
@@ -38,15 +42,21 @@ add-i c = search needs
 loop-less : tie.Need-loop-less Inv-loop μ-loop
 loop-less c = search needs
 
+abbrev at-entry-at : tie.After-slice-known3 Inv-loop μ-loop → tie.After-entry-at Inv-loop μ-loop
+at-entry-at c = c .before .before .before .before
+
+abbrev looped : tie.After-slice-known3 Inv-loop μ-loop → tie.At-loop Inv-loop μ-loop
+looped c = at-entry-at c .before .before
+
 loop-again : tie.Need-loop-again Inv-loop μ-loop
 loop-again c =
-    let s = c .before .before .before .before .before .before .before .before .before .before .before .args in
+    let s = begun (looped c .before) .args in
     let step = c .before .before .step-known .ensures in
-    goes-on (formOf (s .form)) (s .h) (s .tokens .now) (s .book .now) (s .tape .now) (length (s .verdicts .now)) (works (s .form) .kept) _ _ _ _ _ _ (omega (arith, c .before .before .before .before .before .loop-test .taken, c .before .before .before .before .before .before .loop .inv .size)) (c .before .before .before .before .before .before .loop .inv) (c .before .before .before .before .entry-at .ensures) (step .0) (step .1)
+    goes-on (formOf (s .form)) (s .h) (s .tokens .now) (s .book .now) (s .tape .now) (length (s .verdicts .now)) (works (s .form) .kept) _ _ _ _ _ _ (omega (arith, at-entry-at c .before .loop-test .taken, looped c .loop .inv .size)) (looped c .loop .inv) (at-entry-at c .entry-at .ensures) (step .number) (step .cells)
 
 same-length : tie.Need-same-length Inv-loop μ-loop
 same-length c =
-    let s = c .before .before .before .before .before .before in
+    let s = begun (c .before .before) in
     let ready = works (s .args .form) .ready (s .args .h) (s .args .tokens .now) in
     ready _ (c .before .loop .inv .good) .long ∙ sym (ready _ (s .pre .0 .good) .long)
 
@@ -55,8 +65,9 @@ same-length-2 c = search needs
 
 returns : tie.Need-returns Inv-loop μ-loop
 returns c =
-    let s = c .before .before .before .before .before .before .args in
-    ends (formOf (s .form)) (s .h) (s .tokens .now) (s .book .now) (s .tape .now) (length (s .verdicts .now)) _ _ _ (omega (arith, c .loop-test .left, c .before .loop .inv .size)) (c .before .loop .inv)
+    let s = begun (c .before .before) .args in
+    let done = ends (formOf (s .form)) (s .h) (s .tokens .now) (s .book .now) (s .tape .now) (length (s .verdicts .now)) _ _ _ (omega (arith, c .loop-test .left, c .before .loop .inv .size)) (c .before .loop .inv) in
+    record { answer = sym (steps-answer (formOf (s .form)) (s .h) (s .tokens .now) (s .book .now) (entries (length (s .verdicts .now)) (s .tape .now))); verdicts = done .1; book = done .0 }
 
 pub run-known-spec : {M : Type 1} → statement M
 run-known-spec =

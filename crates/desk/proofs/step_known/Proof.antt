@@ -7,8 +7,11 @@ use Rattle.desk.proofs.step_known.Tie as tie
 judge-requires : tie.Need-judge-requires
 judge-requires c κs = search needs
 
+abbrev begun : tie.Then1 → tie.Start
+begun c = c .before .before .before .before
+
 returns : tie.Need-returns
-returns c = let s = c .before .before .before .before in step-malformed _ _ _ _ _ _ (s .pre .good) (c .before .judge .ensures) (c .if1 .taken)
+returns c = let s = begun c in step-malformed _ _ _ _ _ _ (s .pre .good) (c .before .judge .ensures) (c .if1 .taken)
 
 step-kind-requires : tie.Need-step-kind-requires
 step-kind-requires c κs = search needs

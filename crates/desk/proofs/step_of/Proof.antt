@@ -15,9 +15,12 @@ same-length c = search needs
 returns : tie.Need-returns
 returns c = step-unsound _ _ _ _ _ (sym (c .before .is-good .ensures) ∙ not-true _ (c .if1 .taken))
 
+abbrev begun : tie.After-step-known-arg → tie.Start
+begun c = c .before .before .before .before .before .before
+
 step-known-requires : tie.Need-step-known-requires
 step-known-requires c κs =
-    let s = c .before .before .before .before .before .before .pre in
+    let s = begun c .pre in
     record { customers = s .0; benches = s .1; good = sym (c .before .before .is-good .ensures) ∙ not-false _ (c .before .if1 .left) }
 
 same-length-2 : tie.Need-same-length-2

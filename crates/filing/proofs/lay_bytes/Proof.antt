@@ -35,10 +35,16 @@ add-i c = search needs
 loop-less : tie.Need-loop-less Inv-loop μ-loop
 loop-less c = search needs
 
+abbrev begun : tie.At-loop Inv-loop μ-loop → tie.Start Inv-loop μ-loop
+begun c = c .before .before .before
+
+abbrev looped : tie.After-slice-known2 Inv-loop μ-loop → tie.At-loop Inv-loop μ-loop
+looped c = c .before .before .before .before .before .before
+
 loop-again : tie.Need-loop-again Inv-loop μ-loop
 loop-again c =
-    let l = c .before .before .before .before .before .before in
-    let s = l .before .before .before in
+    let l = looped c in
+    let s = begun l in
     let h : l .loop .i < length (s .args .from .now) = omega arith in
     record {
       within = omega arith;
@@ -50,7 +56,7 @@ same-length : tie.Need-same-length Inv-loop μ-loop
 same-length c = c .before .loop .inv .size
 
 returns : tie.Need-returns Inv-loop μ-loop
-returns c = bytes-all _ _ _ _ (c .before .loop .inv) (c .before .before .before .before .pre) (c .loop-test .left)
+returns c = bytes-all _ _ _ _ (c .before .loop .inv) (begun (c .before) .pre) (c .loop-test .left)
 
 pub lay-bytes-spec : {M : Type 1} → statement M
 lay-bytes-spec =

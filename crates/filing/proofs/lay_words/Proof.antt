@@ -35,10 +35,13 @@ add-i c = search needs
 loop-less : tie.Need-loop-less Inv-loop μ-loop
 loop-less c = search needs
 
+abbrev begun : tie.At-loop Inv-loop μ-loop → tie.Start Inv-loop μ-loop
+begun c = c .before .before .before
+
 loop-again : tie.Need-loop-again Inv-loop μ-loop
 loop-again c =
     let l = c .before .before in
-    let s = l .before .before .before in
+    let s = begun l in
     let h : l .loop .i < length (s .args .out .now) = omega (arith, l .loop .inv .size) in
     record {
       within = omega arith;

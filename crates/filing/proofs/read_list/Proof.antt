@@ -18,11 +18,17 @@ returns-3 c = no-room _ _ (c .if3 .taken)
 slice-aggregate-scratch : tie.Need-slice-aggregate-scratch
 slice-aggregate-scratch c = search needs
 
+abbrev at-else2 : tie.After-scratch → tie.Else2
+at-else2 c = c .before .before .before
+
 slice-aggregate-take-list : tie.Need-slice-aggregate-take-list
-slice-aggregate-take-list c = simp length-take (omega (arith, c .before .before .before .if2 .left))
+slice-aggregate-take-list c = simp length-take (omega (arith, at-else2 c .if2 .left))
+
+abbrev at-else3 : tie.After-take-list-arg → tie.Else3
+at-else3 c = c .before .before .before
 
 take-list-requires : tie.Need-take-list-requires
-take-list-requires c κs = (simp length-take (omega (arith, c .before .before .before .before .if2 .left)), c .before .before .before .before .before .if1 .left, simp length-take (omega (arith, c .before .before .before .before .if2 .left, c .before .before .before .if3 .left)))
+take-list-requires c κs = (simp length-take (omega (arith, at-else2 (c .before) .if2 .left)), at-else2 (c .before) .before .if1 .left, simp length-take (omega (arith, at-else2 (c .before) .if2 .left, at-else3 c .if3 .left)))
 
 same-length : tie.Need-same-length
 same-length c = search needs

@@ -15,8 +15,14 @@ is-good-list-requires c κs = search needs
 same-length : tie.Need-same-length
 same-length c = search needs
 
+abbrev begun : tie.After-lay-words → tie.Start
+begun c = c .before .before .before .before .before
+
+abbrev at-lay-words-from-then1 : tie.Then1 → tie.After-lay-words
+at-lay-words-from-then1 c = c .before .before .before .before .before
+
 returns : tie.Need-returns
-returns c = not-good _ _ _ _ (c .before .before .before .before .before .before .before .before .before .before .pre .0) (c .before .before .before .before .before .lay-words .ensures) (sym (c .before .is-good-list .ensures) ∙ not-true _ (c .if1 .taken))
+returns c = not-good _ _ _ _ (begun (at-lay-words-from-then1 c) .pre .0) (at-lay-words-from-then1 c .lay-words .ensures) (sym (c .before .is-good-list .ensures) ∙ not-true _ (c .if1 .taken))
 
 lay-requires : tie.Need-lay-requires
 lay-requires c κs = search needs
@@ -27,9 +33,15 @@ same-length-2 c = search needs
 same-length-3 : tie.Need-same-length-3
 same-length-3 c = search needs
 
+abbrev at-else1 : tie.After-slice-known4 → tie.Else1
+at-else1 c = c .before .before .before .before .before
+
+abbrev at-lay-words-from-slice-known4 : tie.After-slice-known4 → tie.After-lay-words
+at-lay-words-from-slice-known4 c = at-else1 c .before .before .before .before .before
+
 returns-2 : tie.Need-returns-2
-returns-2 c = let s = c .before .before .before .before .before .before .before .before .before .before .before .before .before .before .before in
-    taken _ _ _ _ _ (s .pre .0) (s .pre .1) (s .pre .2) (c .before .before .before .before .before .before .before .before .before .before .lay-words .ensures) (sym (c .before .before .before .before .before .before .is-good-list .ensures) ∙ not-false _ (c .before .before .before .before .before .if1 .left)) (c .before .before .lay .ensures)
+returns-2 c = let s = begun (at-lay-words-from-slice-known4 c) in
+    taken _ _ _ _ _ (s .pre .0) (s .pre .1) (s .pre .2) (at-lay-words-from-slice-known4 c .lay-words .ensures) (sym (at-else1 c .before .is-good-list .ensures) ∙ not-false _ (at-else1 c .if1 .left)) (c .before .before .lay .ensures)
 
 pub take-list-spec : {M : Type 1} → statement M
 take-list-spec =

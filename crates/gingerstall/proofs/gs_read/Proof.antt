@@ -22,8 +22,14 @@ number-of-requires c κs = search needs
 same-length : tie.Need-same-length
 same-length c = search needs
 
+abbrev at-put-fields : tie.After-number-of → tie.After-put-fields
+at-put-fields c = c .before .before .before
+
+abbrev at-read : tie.After-number-of → tie.After-read
+at-read c = at-put-fields c .before .before .before
+
 returns-2 : tie.Need-returns-2
-returns-2 c = read-fields _ _ _ _ (c .before .before .before .before .before .before .read .ensures) _ (c .before .before .before .before .before .before .before .if1 .left) _ _ _ (c .number-of .ensures) (c .before .before .before .before .entry-in .ensures) (c .before .before .before .put-fields .ensures)
+returns-2 c = read-fields _ _ _ _ (at-read c .read .ensures) _ (at-read c .before .if1 .left) _ _ _ (c .number-of .ensures) (at-put-fields c .before .entry-in .ensures) (at-put-fields c .put-fields .ensures)
 
 pub gs-read-spec : {M : Type 1} → statement M
 gs-read-spec =

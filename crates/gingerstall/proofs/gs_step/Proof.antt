@@ -15,9 +15,15 @@ step-requires c κs = search needs
 same-length : tie.Need-same-length
 same-length c = search needs
 
+abbrev at-entry : tie.After-slice-known2 → tie.After-entry
+at-entry c = c .before .before .before
+
+abbrev begun : tie.After-slice-known2 → tie.Start
+begun c = at-entry c .before .before .before .before
+
 returns : tie.Need-returns
-returns c = let s = c .before .before .before .before .before .before .before .args in
-    of-entry (step plain mainHall (s .tokens .now) (s .book .now)) _ _ _ _ (c .before .before .before .entry .ensures) (c .before .before .step .ensures)
+returns c = let s = begun c .args in
+    of-entry (step plain mainHall (s .tokens .now) (s .book .now)) _ _ _ _ (at-entry c .entry .ensures) (c .before .before .step .ensures)
 
 pub gs-step-spec : {M : Type 1} → statement M
 gs-step-spec = tie.close (tie.spec entry-requires step-requires same-length returns)

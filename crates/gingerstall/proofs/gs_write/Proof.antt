@@ -14,8 +14,11 @@ write-requires c κs = search needs
 same-length : tie.Need-same-length
 same-length c = search needs
 
+abbrev at-entry : tie.After-slice-known2 → tie.After-entry
+at-entry c = c .before .before .before .before
+
 returns : tie.Need-returns
-returns c = of-entry (λ e. writeEntry mainHall e (c .before .before .before .before .before .before .args .part .now)) _ _ _ _ (c .before .before .before .before .entry .ensures) (c .before .before .write .ensures)
+returns c = of-entry (λ e. writeEntry mainHall e (at-entry c .before .before .args .part .now)) _ _ _ _ (at-entry c .entry .ensures) (c .before .before .write .ensures)
 
 pub gs-write-spec : {M : Type 1} → statement M
 gs-write-spec = tie.close (tie.spec entry-requires write-requires same-length returns)

@@ -29,14 +29,17 @@ cast-fields-4 c = search needs
 slice-write-fields-4 : tie.Need-slice-write-fields-4
 slice-write-fields-4 c = search needs
 
+abbrev begun : tie.After-struct-known4 → tie.Start
+begun c = c .before .before .before .before
+
 slice-write-fields-5 : tie.Need-slice-write-fields-5
-slice-write-fields-5 c = simp length-set (omega (arith, c .before .before .before .before .pre))
+slice-write-fields-5 c = simp length-set (omega (arith, begun c .pre))
 
 same-length : tie.Need-same-length
 same-length c = search needs
 
 returns : tie.Need-returns
-returns c = five (c .before .before .before .before .args .fields .now) _ _ _ _ _ (c .before .before .before .before .pre)
+returns c = five (begun c .args .fields .now) _ _ _ _ _ (begun c .pre)
 
 pub put-fields-spec : {M : Type 1} → statement M
 put-fields-spec =

@@ -12,14 +12,20 @@ use borrow.Author.Needs.{needs}
 use Rattle.slips.proofs.is_sound_of.Statement.{statement}
 use Rattle.slips.proofs.is_sound_of.Tie as tie
 
-long : (c : tie.Else1) → let s = c .before .before .before .before .args in length (s .book .now) ≡ words * records (s .h)
+abbrev begun : tie.Else1 → tie.Start
+begun c = c .before .before .before .before
+
+long : (c : tie.Else1) → let s = begun c .args in length (s .book .now) ≡ words * records (s .h)
 long c = c .if1 .left ∙ c .before .book-words .ensures
 
-own : (c : tie.After-are-records-good) → let s = c .before .before .before .before .before .before .before .before .before .before .args in
+abbrev at-else1-from-are-records-good : tie.After-are-records-good → tie.Else1
+at-else1-from-are-records-good c = c .before .before .before .before .before .before
+
+own : (c : tie.After-are-records-good) → let s = begun (at-else1-from-are-records-good c) .args in
     c .are-records-good .result ≡ ownGood (s .h) (s .list .now) (amount (recordAt 0 (s .book .now))) (s .book .now)
 unfolding amount
 own c =
-    let s = c .before .before .before .before .before .before .before .before .before .before .args in
+    let s = begun (at-else1-from-are-records-good c) .args in
     c .are-records-good .ensures ∙ ap (λ (d : ℕ). ownGood (s .h) (s .list .now) d (s .book .now)) (c .before .word-of .ensures)
 
 book-words-requires : tie.Need-book-words-requires
@@ -37,8 +43,11 @@ returns-2 c = first-fails (slip-clauses _ _ _ (long (c .before .before))) (sym (
 is-good-list-requires : tie.Need-is-good-list-requires
 is-good-list-requires c κs = search needs
 
+abbrev at-else1-from-then3 : tie.Then3 → tie.Else1
+at-else1-from-then3 c = c .before .before .before .before
+
 returns-3 : tie.Need-returns-3
-returns-3 c = second-fails (slip-clauses _ _ _ (long (c .before .before .before .before))) (sym (c .before .is-good-list .ensures) ∙ not-true _ (c .if3 .taken))
+returns-3 c = second-fails (slip-clauses _ _ _ (long (at-else1-from-then3 c))) (sym (c .before .is-good-list .ensures) ∙ not-true _ (c .if3 .taken))
 
 word-of-requires : tie.Need-word-of-requires
 word-of-requires c κs = search needs
@@ -50,14 +59,17 @@ are-records-good-requires : tie.Need-are-records-good-requires
 are-records-good-requires c κs = search needs
 
 returns-4 : tie.Need-returns-4
-returns-4 c = third-fails (slip-clauses _ _ _ (long (c .before .before .before .before .before .before .before))) (sym (own (c .before)) ∙ not-true _ (c .if4 .taken))
+returns-4 c = third-fails (slip-clauses _ _ _ (long (at-else1-from-are-records-good (c .before)))) (sym (own (c .before)) ∙ not-true _ (c .if4 .taken))
 
 is-spendable-once-requires : tie.Need-is-spendable-once-requires
 is-spendable-once-requires c κs = search needs
 
+abbrev at-else3 : tie.After-is-spendable-once → tie.Else3
+at-else3 c = c .before .before .before .before
+
 returns-5 : tie.Need-returns-5
 returns-5 c =
-    let k3 = c .before .before .before .before in
+    let k3 = at-else3 c in
     let k2 = k3 .before .before in
     let k1 = k2 .before .before in
     c .is-spendable-once .ensures

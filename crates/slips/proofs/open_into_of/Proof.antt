@@ -10,7 +10,10 @@ use borrow.Author.Needs.{needs}
 use Rattle.slips.proofs.open_into_of.Statement.{statement}
 use Rattle.slips.proofs.open_into_of.Tie as tie
 
-long : (c : tie.Else1) → let s = c .before .before .before .before .before .args in length (s .plain .now) ≡ words * records (s .h)
+abbrev begun : tie.Else1 → tie.Start
+begun c = c .before .before .before .before .before
+
+long : (c : tie.Else1) → let s = begun c .args in length (s .plain .now) ≡ words * records (s .h)
 long c = c .if1 .left ∙ c .before .book-words .ensures
 
 book-words-requires : tie.Need-book-words-requires
@@ -25,17 +28,23 @@ is-sound-of-requires c κs = search needs
 returns-2 : tie.Need-returns-2
 returns-2 c = open-refused _ _ _ _ (sym (c .before .is-sound-of .ensures) ∙ not-true _ (c .if2 .taken))
 
+abbrev at-else1 : tie.Else2 → tie.Else1
+at-else1 c = c .before .before
+
 open-all-requires : tie.Need-open-all-requires
 open-all-requires c κs =
-    let s = c .before .before .before .before .before .before .before .before in
-    (s .pre .0, s .pre .1, slips-long _ _ _ (sym (c .before .before .is-sound-of .ensures) ∙ not-false _ (c .before .if2 .left)), long (c .before .before .before))
+    let s = begun (at-else1 (c .before)) in
+    (s .pre .0, s .pre .1, slips-long _ _ _ (sym (c .before .before .is-sound-of .ensures) ∙ not-false _ (c .before .if2 .left)), long (at-else1 (c .before)))
 
 same-length : tie.Need-same-length
 same-length c = search needs
 
+abbrev at-else2 : tie.After-slice-known2 → tie.Else2
+at-else2 c = c .before .before .before .before
+
 returns-3 : tie.Need-returns-3
 returns-3 c =
-    open-done _ _ _ _ (sym (c .before .before .before .before .before .is-sound-of .ensures) ∙ not-false _ (c .before .before .before .before .if2 .left)) (long (c .before .before .before .before .before .before)) _ (c .before .before .open-all .ensures)
+    open-done _ _ _ _ (sym (at-else2 c .before .is-sound-of .ensures) ∙ not-false _ (at-else2 c .if2 .left)) (long (at-else1 (at-else2 c))) _ (c .before .before .open-all .ensures)
 
 pub open-into-of-spec : {M : Type 1} → statement M
 open-into-of-spec =

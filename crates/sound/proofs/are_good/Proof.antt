@@ -17,11 +17,17 @@ Inv-loop h list book d n k₀ k = Upto (λ j. recordGood h list d j (recordAt j 
 abbrev μ-loop : tie.MeasureT-loop
 μ-loop h list book d n k₀ k = n - k
 
-good : (c : tie.After-is-good Inv-loop μ-loop) → let l = c .before .before .before in let s = l .before .before .before .args in
+abbrev looped : tie.After-is-good Inv-loop μ-loop → tie.At-loop Inv-loop μ-loop
+looped c = c .before .before .before
+
+abbrev begun : tie.At-loop Inv-loop μ-loop → tie.Start Inv-loop μ-loop
+begun c = c .before .before .before
+
+good : (c : tie.After-is-good Inv-loop μ-loop) → let l = looped c in let s = begun l .args in
     c .is-good .result ≡ recordGood (s .h) (s .list .now) (s .d) (l .loop .k) (recordAt (l .loop .k) (s .book .now))
 good c =
-    let l = c .before .before .before in
-    let s = l .before .before .before .args in
+    let l = looped c in
+    let s = begun l .args in
     c .is-good .ensures ∙ ap (recordGood (s .h) (s .list .now) (s .d) (l .loop .k)) (c .before .record-at .ensures)
 
 loop-holds : tie.Need-loop-holds Inv-loop μ-loop
@@ -31,11 +37,11 @@ record-at-requires : tie.Need-record-at-requires Inv-loop μ-loop
 record-at-requires c κs = search needs
 
 is-good-requires : tie.Need-is-good-requires Inv-loop μ-loop
-is-good-requires c κs = (block-size words _ _ _ (omega arith) (c .record-at .ensures), c .before .before .before .before .before .pre .0, c .before .before .before .before .before .pre .1)
+is-good-requires c κs = (block-size words _ _ _ (omega arith) (c .record-at .ensures), begun (c .before .before) .pre .0, begun (c .before .before) .pre .1)
 
 returns : tie.Need-returns Inv-loop μ-loop
 returns c =
-    let l = c .before .before .before .before in
+    let l = looped (c .before) in
     first-no _ _ (l .loop .k) (l .loop .inv) (omega arith) (sym (good (c .before)) ∙ not-true _ (c .if1 .taken))
 
 add-k : tie.Need-add-k Inv-loop μ-loop
@@ -46,7 +52,7 @@ loop-less c = search needs
 
 loop-again : tie.Need-loop-again Inv-loop μ-loop
 loop-again c =
-    let l = c .before .before .before .before in
+    let l = looped (c .before) in
     first-yes _ _ (l .loop .k) (l .loop .inv) (omega arith) (sym (good (c .before)) ∙ not-false _ (c .if1 .left))
 
 returns-2 : tie.Need-returns-2 Inv-loop μ-loop

@@ -1,85 +1,89 @@
 -- The lines of the benches looked at have both their parties.
-use mathlib.Core.Path.{_≡_, refl, sym, ap, _∙_}
+use mathlib.Core.Path.{_≡_, sym, ap, _∙_}
+use mathlib.Core.List.{List}
 use Prim.Native.Nat.{ℕ, _+_, _*_, _-_, _≤_, _<_}
-use native.Mathlib.Nat.{mul-le-mul, mul-le-mul-left}
+use native.Mathlib.Nat.{mul-le-mul-left}
 use native.Mathlib.Omega.{arith}
+use lib.ListN.{getD}
 use borrow.Author.Tests.{not-true, not-false}
-use Rattle.rules.specs.Hall.{Till, number}
+use Rattle.rules.specs.Hall.{Carnet, Till, Line, number}
 use Rattle.rules.specs.Records.{inUse, recordAt}
 use Rattle.laws.proofs.Loops.{Upto, upto-all, upto-end, first-no, first-yes}
-use Rattle.groups.specs.Together.{backed}
+use Rattle.sound.specs.Together.{backed}
+use Rattle.sound.proofs.Whole.{joins-are}
 use borrow.Author.Needs.{needs}
 use Rattle.sound.proofs.are_lines_joined.Statement.{statement}
 use Rattle.sound.proofs.are_lines_joined.Tie as tie
 
 abbrev Inv-loop : tie.InvT-loop
-Inv-loop h book tills lines m₀ m = (tills ≡ 1 + 2 * h .customers + h .benches) × (lines ≡ 1 + 2 * h .customers + 2 * h .benches) × Upto (λ j. backed book (1 + 2 * h .customers + 2 * h .benches + h .customers * j) 1 (inUse (recordAt (number h (Till j)) book)) (h .customers)) 0 (h .benches) m
+Inv-loop h book carnets m₀ m = Upto (λ j. backed book (number h (Line j 0)) (number h (Carnet 0)) (inUse (recordAt (number h (Till j)) book)) (h .customers)) 0 (h .benches) m
 
 abbrev μ-loop : tie.MeasureT-loop
-μ-loop h book tills lines m₀ m = h .benches - m
+μ-loop h book carnets m₀ m = h .benches - m
+
+-- the arguments, from within the loop
+abbrev begun : tie.At-loop Inv-loop μ-loop → tie.Start Inv-loop μ-loop
+begun c = c .before .before .before
+
+abbrev turn : tie.Then1 Inv-loop μ-loop → tie.At-loop Inv-loop μ-loop
+turn c = c .before .before
+
+same-backed : (b : List ℕ) (n : ℕ) {x x′ y y′ u u′ : ℕ} → x ≡ x′ → y ≡ y′ → u ≡ u′ → backed b x y u n ≡ backed b x′ y′ u′ n
+same-backed b n p q r = rw (p, q, r)
 
 -- the lines of a bench that is looked at are not past the last
-few : (c : tie.Then1 Inv-loop μ-loop) → let l = c .before .before in let h = l .before .before .before .before .before .before .args .h in
-    (h .customers * l .loop .m + h .customers ≤ h .customers * h .benches) × (h .customers * h .benches ≤ 64 * 64)
+few : (c : tie.Then1 Inv-loop μ-loop) → let h = begun (turn c) .args .h in h .customers * turn c .loop .m + h .customers ≤ h .customers * h .benches
 few c =
-    let l = c .before .before in
-    let s = l .before .before .before .before .before .before in
-    let u : l .loop .m < s .args .h .benches = omega arith in
-    (omega (arith, mul-le-mul-left (s .args .h .customers) u), mul-le-mul (s .pre .0) (s .pre .1))
+    let h = begun (turn c) .args .h in
+    let u : turn c .loop .m < h .benches = omega arith in
+    omega (arith, mul-le-mul-left (h .customers) u)
 
-backs : (c : tie.After-are-backed Inv-loop μ-loop) → let l = c .before .before .before .before .before in let s = l .before .before .before .before .before .before .args in
+abbrev looped-from-are-backed : tie.After-are-backed Inv-loop μ-loop → tie.At-loop Inv-loop μ-loop
+looped-from-are-backed c = turn (c .before .before .before .before)
+
+backs : (c : tie.After-are-backed Inv-loop μ-loop) → let l = looped-from-are-backed c in let s = begun l .args in
     c .are-backed .result
-    ≡ backed (s .book .now) (1 + 2 * s .h .customers + 2 * s .h .benches + s .h .customers * l .loop .m) 1 (inUse (recordAt (number (s .h) (Till (l .loop .m))) (s .book .now))) (s .h .customers)
+    ≡ backed (s .book .now) (number (s .h) (Line (l .loop .m) 0)) (number (s .h) (Carnet 0)) (inUse (recordAt (number (s .h) (Till (l .loop .m))) (s .book .now))) (s .h .customers)
 unfolding inUse
 backs c =
-    let l = c .before .before .before .before .before in
-    let s = l .before .before .before .before .before .before .args in
+    let read = c .before .before in
+    let l = turn (read .before .before) in
+    let b = begun l .args .book .now in
     c .are-backed .ensures
-    ∙ ap (λ (u : ℕ). backed (s .book .now) (1 + 2 * s .h .customers + 2 * s .h .benches + s .h .customers * l .loop .m) 1 u (s .h .customers)) (c .before .before .word-of .ensures)
+    ∙ same-backed b _ (c .before .line .ensures) (l .before .carnet .ensures)
+    (read .word-of .ensures ∙ ap (λ (k : ℕ). getD (recordAt k b) 0 0) (read .before .till .ensures))
 
-mul-tills : tie.Need-mul-tills Inv-loop μ-loop
-mul-tills c = search needs
-
-add-tills : tie.Need-add-tills Inv-loop μ-loop
-add-tills c = search needs
-
-add-tills-2 : tie.Need-add-tills-2 Inv-loop μ-loop
-add-tills-2 c = search needs
-
-mul-lines : tie.Need-mul-lines Inv-loop μ-loop
-mul-lines c = search needs
-
-add-lines : tie.Need-add-lines Inv-loop μ-loop
-add-lines c = search needs
-
-mul-lines-2 : tie.Need-mul-lines-2 Inv-loop μ-loop
-mul-lines-2 c = search needs
-
-add-lines-2 : tie.Need-add-lines-2 Inv-loop μ-loop
-add-lines-2 c = search needs
+carnet-requires : tie.Need-carnet-requires Inv-loop μ-loop
+carnet-requires c κs = search needs
 
 loop-holds : tie.Need-loop-holds Inv-loop μ-loop
-loop-holds c = (refl, refl, upto-all _ 0 _)
+loop-holds c = upto-all _ 0 _
 
-add-word-of : tie.Need-add-word-of Inv-loop μ-loop
-add-word-of c = search needs
+cast-till : tie.Need-cast-till Inv-loop μ-loop
+cast-till c = search needs
+
+till-requires : tie.Need-till-requires Inv-loop μ-loop
+till-requires c κs = search needs
 
 word-of-requires : tie.Need-word-of-requires Inv-loop μ-loop
 word-of-requires c κs = search needs
 
-mul-are-backed : tie.Need-mul-are-backed Inv-loop μ-loop
-mul-are-backed c = omega (arith, few (c .before .before))
+cast-line : tie.Need-cast-line Inv-loop μ-loop
+cast-line c = search needs
 
-add-are-backed : tie.Need-add-are-backed Inv-loop μ-loop
-add-are-backed c = omega (arith, few (c .before .before))
+line-requires : tie.Need-line-requires Inv-loop μ-loop
+line-requires c κs = search needs
+
+abbrev at-then1 : tie.After-line Inv-loop μ-loop → tie.Then1 Inv-loop μ-loop
+at-then1 c = c .before .before .before
 
 are-backed-requires : tie.Need-are-backed-requires Inv-loop μ-loop
-are-backed-requires c κs = (omega (arith, few (c .before .before)), omega arith)
+are-backed-requires c κs = (omega (arith, few (at-then1 c)), omega arith)
 
 returns : tie.Need-returns Inv-loop μ-loop
 returns c =
-    let l = c .before .before .before .before .before .before in
-    first-no _ _ (l .loop .m) (l .loop .inv .2) (omega arith) (sym (backs (c .before)) ∙ not-true _ (c .if2 .taken))
+    let l = looped-from-are-backed (c .before) in
+    first-no _ _ (l .loop .m) (l .loop .inv) (omega arith) (sym (backs (c .before)) ∙ not-true _ (c .if2 .taken)) ∙ joins-are _ _
 
 add-m : tie.Need-add-m Inv-loop μ-loop
 add-m c = search needs
@@ -89,11 +93,11 @@ loop-less c = search needs
 
 loop-again : tie.Need-loop-again Inv-loop μ-loop
 loop-again c =
-    let l = c .before .before .before .before .before .before in
-    (refl, refl, first-yes _ _ (l .loop .m) (l .loop .inv .2) (omega arith) (sym (backs (c .before)) ∙ not-false _ (c .if2 .left)))
+    let l = looped-from-are-backed (c .before) in
+    first-yes _ _ (l .loop .m) (l .loop .inv) (omega arith) (sym (backs (c .before)) ∙ not-false _ (c .if2 .left))
 
 returns-2 : tie.Need-returns-2 Inv-loop μ-loop
-returns-2 c = upto-end _ 0 _ _ (c .before .before .loop .inv .2) (omega arith)
+returns-2 c = upto-end _ 0 _ _ (c .before .before .loop .inv) (omega arith) ∙ joins-are _ _
 
 pub are-lines-joined-spec : {M : Type 1} → statement M
 are-lines-joined-spec =
@@ -101,18 +105,13 @@ are-lines-joined-spec =
     (tie.spec
     Inv-loop
     μ-loop
-    mul-tills
-    add-tills
-    add-tills-2
-    mul-lines
-    add-lines
-    mul-lines-2
-    add-lines-2
+    carnet-requires
     loop-holds
-    add-word-of
+    cast-till
+    till-requires
     word-of-requires
-    mul-are-backed
-    add-are-backed
+    cast-line
+    line-requires
     are-backed-requires
     returns
     add-m

@@ -7,58 +7,61 @@ use borrow.Author.Needs.{needs}
 use Rattle.sound.proofs.are_parties_good.Statement.{statement}
 use Rattle.sound.proofs.are_parties_good.Tie as tie
 
-add-views : tie.Need-add-views
-add-views c = search needs
+carnet-requires : tie.Need-carnet-requires
+carnet-requires c κs = search needs
+
+view-requires : tie.Need-view-requires
+view-requires c κs = search needs
 
 are-paired-requires : tie.Need-are-paired-requires
 are-paired-requires c κs = search needs
 
 returns : tie.Need-returns
-returns c = second-fails (parties-are _ _) (sym (c .before .are-paired .ensures) ∙ not-true _ (c .if1 .taken))
+returns c =
+    let customers = c .before in
+    second-fails (parties-are _ _ (customers .before .before .carnet .ensures) (customers .before .view .ensures) refl refl)
+    (sym (customers .are-paired .ensures) ∙ not-true _ (c .if1 .taken))
 
-mul-benches : tie.Need-mul-benches
-mul-benches c = search needs
+till-requires : tie.Need-till-requires
+till-requires c κs = search needs
 
-add-benches : tie.Need-add-benches
-add-benches c = search needs
-
-mul-tills : tie.Need-mul-tills
-mul-tills c = search needs
-
-add-tills : tie.Need-add-tills
-add-tills c = search needs
-
-add-tills-2 : tie.Need-add-tills-2
-add-tills-2 c = search needs
+bench-view-requires : tie.Need-bench-view-requires
+bench-view-requires c κs = search needs
 
 are-paired-requires-2 : tie.Need-are-paired-requires-2
 are-paired-requires-2 c κs = search needs
 
 returns-2 : tie.Need-returns-2
-returns-2 c = third-fails (parties-are _ _) (sym (c .before .are-paired2 .ensures) ∙ not-true _ (c .if2 .taken))
+returns-2 c =
+    let benches = c .before in
+    third-fails (parties-are _ _ refl refl (benches .before .before .till .ensures) (benches .before .bench-view .ensures))
+    (sym (benches .are-paired2 .ensures) ∙ not-true _ (c .if2 .taken))
 
 are-lines-joined-requires : tie.Need-are-lines-joined-requires
 are-lines-joined-requires c κs = search needs
 
 returns-3 : tie.Need-returns-3
 returns-3 c =
+    let benches = c .before .before in
+    let tills = benches .before .before in
+    let customers = tills .before .before in
     c .are-lines-joined .ensures
-    ∙ fourth-decides (parties-are _ _) refl
-    (sym (c .before .before .before .before .before .before .before .are-paired .ensures) ∙ not-false _ (c .before .before .before .before .before .before .if1 .left))
-    (sym (c .before .before .are-paired2 .ensures) ∙ not-false _ (c .before .if2 .left))
+    ∙ fourth-decides
+    (parties-are _ _ (customers .before .before .carnet .ensures) (customers .before .view .ensures) (tills .till .ensures) (benches .before .bench-view .ensures))
+    refl
+    (sym (customers .are-paired .ensures) ∙ not-false _ (tills .before .if1 .left))
+    (sym (benches .are-paired2 .ensures) ∙ not-false _ (c .before .if2 .left))
 
 pub are-parties-good-spec : {M : Type 1} → statement M
 are-parties-good-spec =
     tie.close
     (tie.spec
-    add-views
+    carnet-requires
+    view-requires
     are-paired-requires
     returns
-    mul-benches
-    add-benches
-    mul-tills
-    add-tills
-    add-tills-2
+    till-requires
+    bench-view-requires
     are-paired-requires-2
     returns-2
     are-lines-joined-requires

@@ -13,9 +13,12 @@ returns c = simp (lt-leb (length (c .before .before .args .list .now)) 4096 (c .
 all-different-requires : tie.Need-all-different-requires
 all-different-requires c κs = search needs
 
+abbrev begun : tie.After-all-different → tie.Start
+begun c = c .before .before .before
+
 returns-2 : tie.Need-returns-2
 unfolding goodList
-returns-2 c = simp (le-leb (length (c .before .before .before .args .list .now)) 4096 (c .before .if1 .left)) (c .all-different .ensures)
+returns-2 c = simp (le-leb (length (begun c .args .list .now)) 4096 (c .before .if1 .left)) (c .all-different .ensures)
 
 pub is-good-list-spec : {M : Type 1} → statement M
 is-good-list-spec = tie.close (tie.spec returns all-different-requires returns-2)

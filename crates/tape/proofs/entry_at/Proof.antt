@@ -31,8 +31,11 @@ add-word-at c = search needs
 word-at-requires : tie.Need-word-at-requires
 word-at-requires c κs = search needs
 
+abbrev begun : tie.After-word-at → tie.Start
+begun c = c .before .before .before .before .before .before
+
 returns : tie.Need-returns
-returns c = let s = c .before .before .before .before .before .before .args in entry-made (s .bytes .now) (s .at) _ (c .word-at .ensures)
+returns c = let s = begun c .args in entry-made (s .bytes .now) (s .at) _ (c .word-at .ensures)
 
 pub entry-at-spec : {M : Type 1} → statement M
 entry-at-spec =

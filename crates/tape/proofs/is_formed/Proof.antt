@@ -34,12 +34,18 @@ returns-3 c = simp (sym (c .before .is-used-or-zero2 .ensures) ∙ not-true _ (c
 is-used-or-zero-requires-3 : tie.Need-is-used-or-zero-requires-3
 is-used-or-zero-requires-3 c κs = search needs
 
+abbrev at-else1 : tie.Else2 → tie.Else1
+at-else1 c = c .before .before .before
+
+abbrev at-else2 : tie.Else3 → tie.Else2
+at-else2 c = c .before .before .before
+
 returns-4 : tie.Need-returns-4
 unfolding formed
 returns-4 c =
     let k3 = c .before in
-    let k2 = k3 .before .before .before in
-    let k1 = k2 .before .before .before in
+    let k2 = at-else2 k3 in
+    let k1 = at-else1 k2 in
     simp (
       eq-eqb _ 0 (k1 .if1 .left),
       sym (k2 .before .is-used-or-zero .ensures) ∙ not-false _ (k2 .if2 .left),

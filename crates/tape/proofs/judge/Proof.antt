@@ -2,7 +2,7 @@
 use mathlib.Core.Path.{refl}
 use borrow.Author.Needs.{needs}
 use Rattle.rules.specs.Lists.{occ}
-use Rattle.tape.proofs.ByKind.{by-kind, no-kind}
+use Rattle.tape.proofs.ByKind.{of-kind, no-kind}
 use Rattle.tape.proofs.judge.Statement.{statement}
 use Rattle.tape.proofs.judge.Tie as tie
 
@@ -11,63 +11,63 @@ fields-requires c κs = search needs
 
 returns : tie.Need-returns
 unfolding occ
-returns c = by-kind _ _ 1 _ refl refl (c .before .if1 .taken) (c .fields .ensures)
+returns c = of-kind _ _ 1 _ refl refl (c .before .if1 .taken) (c .fields .ensures)
 
 fields-requires-2 : tie.Need-fields-requires-2
 fields-requires-2 c κs = search needs
 
 returns-2 : tie.Need-returns-2
 unfolding occ
-returns-2 c = by-kind _ _ 2 _ refl refl (c .before .if2 .taken) (c .fields2 .ensures)
+returns-2 c = of-kind _ _ 2 _ refl refl (c .before .if2 .taken) (c .fields2 .ensures)
 
 fields-requires-3 : tie.Need-fields-requires-3
 fields-requires-3 c κs = search needs
 
 returns-3 : tie.Need-returns-3
 unfolding occ
-returns-3 c = by-kind _ _ 3 _ refl refl (c .before .if3 .taken) (c .fields3 .ensures)
+returns-3 c = of-kind _ _ 3 _ refl refl (c .before .if3 .taken) (c .fields3 .ensures)
 
 fields-requires-4 : tie.Need-fields-requires-4
 fields-requires-4 c κs = search needs
 
 returns-4 : tie.Need-returns-4
 unfolding occ
-returns-4 c = by-kind _ _ 4 _ refl refl (c .before .if4 .taken) (c .fields4 .ensures)
+returns-4 c = of-kind _ _ 4 _ refl refl (c .before .if4 .taken) (c .fields4 .ensures)
 
 fields-requires-5 : tie.Need-fields-requires-5
 fields-requires-5 c κs = search needs
 
 returns-5 : tie.Need-returns-5
 unfolding occ
-returns-5 c = by-kind _ _ 5 _ refl refl (c .before .if5 .taken) (c .fields5 .ensures)
+returns-5 c = of-kind _ _ 5 _ refl refl (c .before .if5 .taken) (c .fields5 .ensures)
 
 fields-requires-6 : tie.Need-fields-requires-6
 fields-requires-6 c κs = search needs
 
 returns-6 : tie.Need-returns-6
 unfolding occ
-returns-6 c = by-kind _ _ 6 _ refl refl (c .before .if6 .taken) (c .fields6 .ensures)
+returns-6 c = of-kind _ _ 6 _ refl refl (c .before .if6 .taken) (c .fields6 .ensures)
 
 fields-requires-7 : tie.Need-fields-requires-7
 fields-requires-7 c κs = search needs
 
 returns-7 : tie.Need-returns-7
 unfolding occ
-returns-7 c = by-kind _ _ 7 _ refl refl (c .before .if7 .taken) (c .fields7 .ensures)
+returns-7 c = of-kind _ _ 7 _ refl refl (c .before .if7 .taken) (c .fields7 .ensures)
 
 fields-requires-8 : tie.Need-fields-requires-8
 fields-requires-8 c κs = search needs
 
 returns-8 : tie.Need-returns-8
 unfolding occ
-returns-8 c = by-kind _ _ 8 _ refl refl (c .before .if8 .taken) (c .fields8 .ensures)
+returns-8 c = of-kind _ _ 8 _ refl refl (c .before .if8 .taken) (c .fields8 .ensures)
 
 fields-requires-9 : tie.Need-fields-requires-9
 fields-requires-9 c κs = search needs
 
 returns-9 : tie.Need-returns-9
 unfolding occ
-returns-9 c = by-kind _ _ 9 _ refl refl (c .before .if9 .taken) (c .fields9 .ensures)
+returns-9 c = of-kind _ _ 9 _ refl refl (c .before .if9 .taken) (c .fields9 .ensures)
 
 returns-10 : tie.Need-returns-10
 returns-10 c =
@@ -78,7 +78,18 @@ returns-10 c =
     let k4 = k5 .before in
     let k3 = k4 .before in
     let k2 = k3 .before in
-    no-kind _ _ (k2 .before .if1 .left) (k2 .if2 .left) (k3 .if3 .left) (k4 .if4 .left) (k5 .if5 .left) (k6 .if6 .left) (k7 .if7 .left) (k8 .if8 .left) (c .if9 .left)
+    no-kind _ _
+    record {
+      join-customer = k2 .before .if1 .left;
+      join-bench = k2 .if2 .left;
+      open-line = k3 .if3 .left;
+      update = k4 .if4 .left;
+      stock = k5 .if5 .left;
+      sell = k6 .if6 .left;
+      bench-authenticates = k7 .if7 .left;
+      desk-authenticates = k8 .if8 .left;
+      clear = c .if9 .left;
+    }
 
 pub judge-spec : {M : Type 1} → statement M
 judge-spec =

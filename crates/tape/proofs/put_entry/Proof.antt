@@ -25,12 +25,15 @@ slice-write-out-4 c = search needs
 put-word-requires : tie.Need-put-word-requires
 put-word-requires c κs = simp length-set (omega arith)
 
-laid : (c : tie.After-slice-known2) → c .before .before .put-word .last .0 ≡ eightBytes (c .before .before .before .before .before .args .e)
+abbrev begun : tie.After-slice-known2 → tie.Start
+begun c = c .before .before .before .before .before
+
+laid : (c : tie.After-slice-known2) → c .before .before .put-word .last .0 ≡ eightBytes (begun c .args .e)
 unfolding eightBytes
-laid c = let s = c .before .before .before .before .before in c .before .before .put-word .ensures ∙ put-eight (s .args .out .now) _ _ _ _ _ (s .pre)
+laid c = let s = begun c in c .before .before .put-word .ensures ∙ put-eight (s .args .out .now) _ _ _ _ _ (s .pre)
 
 same-length : tie.Need-same-length
-same-length c = let s = c .before .before .before .before .before in ap length (laid c) ∙ eight-long (s .args .e) ∙ sym (s .pre)
+same-length c = let s = begun c in ap length (laid c) ∙ eight-long (s .args .e) ∙ sym (s .pre)
 
 returns : tie.Need-returns
 returns c = laid c

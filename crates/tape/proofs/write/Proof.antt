@@ -19,9 +19,12 @@ put-entry-requires c κs = search needs
 same-length : tie.Need-same-length
 same-length c = search needs
 
+abbrev at-else2 : tie.After-slice-known2 → tie.Else2
+at-else2 c = c .before .before .before .before
+
 returns-3 : tie.Need-returns-3
 returns-3 c =
-    let k = c .before .before .before .before in
+    let k = at-else2 c in
     write-good _ _ _ _ (k .before .before .judge .ensures) (k .before .if1 .left) _ (k .if2 .left) (c .before .before .put-entry .ensures)
 
 pub write-spec : {M : Type 1} → statement M

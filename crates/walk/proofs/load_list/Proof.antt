@@ -65,9 +65,15 @@ returns-3 c = λ l. absurd (omega arith)
 same-length-2 : tie.Need-same-length-2
 same-length-2 c = search needs
 
+abbrev at-read-list : tie.Else3 → tie.After-read-list
+at-read-list c = c .before .before .before
+
+abbrev at-read-full : tie.Else3 → tie.After-read-full
+at-read-full c = at-read-list c .before .before .before .before .before .before .before
+
 -- src/main.rt:37:1
 returns-4 : tie.Need-returns-4
-returns-4 c = λ l. list-good _ _ _ _ _ (c .before .before .before .before .before .before .before .before .before .before .read-full .ensures .1) (c .if3 .left) (c .before .before .before .read-list .ensures)
+returns-4 c = λ l. list-good _ _ _ _ _ (at-read-full c .read-full .ensures .1) (c .if3 .left) (at-read-list c .read-list .ensures)
 
 pub load-list-spec : {M : Type 1} → statement M
 load-list-spec =

@@ -39,17 +39,26 @@ make-empty-requires c κs = search needs
 array-share-prefix-list : tie.Need-array-share-prefix-list
 array-share-prefix-list c = search needs
 
+abbrev at-else1 : tie.After-list3 → tie.Else1
+at-else1 c = c .before .before .before .before
+
+abbrev at-load-list : tie.After-list3 → tie.After-load-list
+at-load-list c = at-else1 c .before .before
+
 -- src/main.rt:120:10
 slice-aggregate-walk : tie.Need-slice-aggregate-walk
-slice-aggregate-walk c = simp length-take (omega (arith, c .before .before .before .before .if1 .left, c .before .before .before .before .before .before .load-list .kept .0))
+slice-aggregate-walk c = simp length-take (omega (arith, at-else1 c .if1 .left, at-load-list c .load-list .kept .0))
 
 -- src/main.rt:120:22
 slice-aggregate-walk-2 : tie.Need-slice-aggregate-walk-2
 slice-aggregate-walk-2 c = search needs
 
+abbrev at-make-empty : tie.After-book3 → tie.After-make-empty
+at-make-empty c = c .before .before .before
+
 -- src/main.rt:120:5
 walk-requires : tie.Need-walk-requires
-walk-requires c κs = empty-known _ _ _ (c .before .before .before .before .before .before .before .load-list .ensures (c .before .before .before .before .before .if1 .left)) (length-replicate {A = ℕ} 6372 0) (c .before .before .before .make-empty .ensures .1)
+walk-requires c κs = empty-known _ _ _ (at-load-list (c .before) .load-list .ensures (at-else1 (c .before) .if1 .left)) (length-replicate {A = ℕ} 6372 0) (at-make-empty c .make-empty .ensures .cells)
 
 -- src/main.rt:111:1
 returns-2 : tie.Need-returns-2

@@ -21,9 +21,12 @@ put-accounts-requires c κs = search needs
 array-share-prefix-lines : tie.Need-array-share-prefix-lines
 array-share-prefix-lines c = search needs
 
+abbrev at-buffer : tie.After-lines3 → tie.After-buffer
+at-buffer c = c .before .before .before .before
+
 -- src/main.rt:83:10
 slice-aggregate-show : tie.Need-slice-aggregate-show
-slice-aggregate-show c = simp length-take (omega (arith, c .before .before .put-accounts .ensures .2, c .before .before .put-accounts .kept .0, c .before .before .before .before .buffer .ensures))
+slice-aggregate-show c = simp length-take (omega (arith, c .before .before .put-accounts .ensures .2, c .before .before .put-accounts .kept .0, at-buffer c .buffer .ensures))
 
 -- src/main.rt:83:5
 show-requires : tie.Need-show-requires

@@ -20,9 +20,12 @@ slice-aggregate-fail c = search needs
 fail-requires : tie.Need-fail-requires
 fail-requires c κs = search needs
 
+abbrev at-walk-tape : tie.After-show-accounts-arg → tie.After-walk-tape
+at-walk-tape c = c .before .before .before .before .before
+
 -- src/main.rt:108:5
 show-accounts-requires : tie.Need-show-accounts-requires
-show-accounts-requires c κs = known-long _ _ (c .before .before .before .before .before .walk-tape .ensures)
+show-accounts-requires c κs = known-long _ _ (at-walk-tape c .walk-tape .ensures)
 
 -- src/main.rt:101:1
 same-length : tie.Need-same-length

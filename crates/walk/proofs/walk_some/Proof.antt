@@ -4,7 +4,7 @@ use lib.ListN.{length-take}
 use Rattle.rules.specs.Hall.{mainHall}
 use Rattle.rules.specs.Form.{plain}
 use Rattle.keeps.proofs.Keeps.{plain-kept}
-use Rattle.walking.proofs.Joined.{still-known}
+use Rattle.listing.proofs.Joined.{still-known}
 use borrow.Author.Needs.{needs}
 use Rattle.walk.proofs.walk_some.Statement.{statement}
 use Rattle.walk.proofs.walk_some.Tie as tie
@@ -41,9 +41,15 @@ walk-part-requires c κs = search needs
 array-share-prefix-lines : tie.Need-array-share-prefix-lines
 array-share-prefix-lines c = search needs
 
+abbrev at-walk-part : tie.After-lines3 → tie.After-walk-part
+at-walk-part c = c .before .before .before .before
+
+abbrev at-large-buffer : tie.After-lines3 → tie.After-large-buffer
+at-large-buffer c = at-walk-part c .before .before .before .before
+
 -- src/main.rt:75:13
 slice-aggregate-show : tie.Need-slice-aggregate-show
-slice-aggregate-show c = simp length-take (omega (arith, c .before .before .before .before .walk-part .ensures .3, c .before .before .before .before .walk-part .kept .1 .1 .1 .1 .1 .1 .0, c .before .before .before .before .before .before .before .before .large-buffer .ensures))
+slice-aggregate-show c = simp length-take (omega (arith, at-walk-part c .walk-part .ensures .3, at-walk-part c .walk-part .kept .1 .1 .1 .1 .1 .1 .0, at-large-buffer c .large-buffer .ensures))
 
 -- src/main.rt:75:8
 show-requires : tie.Need-show-requires
@@ -53,9 +59,12 @@ show-requires c κs = search needs
 same-length : tie.Need-same-length
 same-length c = search needs
 
+abbrev begun : tie.After-show → tie.Start
+begun c = at-large-buffer (c .before) .before .before .before .before .before .before
+
 -- src/main.rt:59:1
 returns : tie.Need-returns
-returns c = (still-known plain plain-kept mainHall _ _ _ _ (c .before .before .before .before .before .before .before .before .before .before .before .before .before .before .before .before .pre .0) (c .before .before .before .before .before .before .walk-part .ensures .1), omega (arith, c .before .before .before .before .before .before .before .before .before .before .before .before .read-full .ensures))
+returns c = (still-known plain plain-kept mainHall _ _ _ _ (begun (c .before) .pre .0) (at-walk-part (c .before .before) .walk-part .ensures .1), omega (arith, at-large-buffer (c .before .before) .before .before .read-full .ensures))
 
 -- src/main.rt:59:1
 same-length-2 : tie.Need-same-length-2
@@ -63,7 +72,7 @@ same-length-2 c = search needs
 
 -- src/main.rt:59:1
 returns-2 : tie.Need-returns-2
-returns-2 c = (still-known plain plain-kept mainHall _ _ _ _ (c .before .before .before .before .before .before .before .before .before .before .before .before .before .before .before .before .pre .0) (c .before .before .before .before .before .before .walk-part .ensures .1), omega arith)
+returns-2 c = (still-known plain plain-kept mainHall _ _ _ _ (begun (c .before) .pre .0) (at-walk-part (c .before .before) .walk-part .ensures .1), omega arith)
 
 pub walk-some-spec : {M : Type 1} → statement M
 walk-some-spec =

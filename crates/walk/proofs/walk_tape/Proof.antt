@@ -23,9 +23,15 @@ loop-holds c = search needs
 walk-some-requires : tie.Need-walk-some-requires Inv-loop μ-loop
 walk-some-requires c κs = search needs
 
+abbrev at-walk-some : tie.Then1 Inv-loop μ-loop → tie.After-walk-some Inv-loop μ-loop
+at-walk-some c = c .before .before .before
+
+abbrev begun-from-then1 : tie.Then1 Inv-loop μ-loop → tie.Start Inv-loop μ-loop
+begun-from-then1 c = at-walk-some c .before .before .before .before .before .before
+
 -- src/main.rt:95:13
 same-length : tie.Need-same-length Inv-loop μ-loop
-same-length c = known-long _ _ (c .before .before .before .walk-some .ensures .0) ∙ sym (known-long _ _ (c .before .before .before .before .before .before .before .before .before .pre))
+same-length c = known-long _ _ (at-walk-some c .walk-some .ensures .0) ∙ sym (known-long _ _ (begun-from-then1 c .pre))
 
 -- src/main.rt:95:13
 returns : tie.Need-returns Inv-loop μ-loop
@@ -43,9 +49,12 @@ loop-less c = search needs
 loop-again : tie.Need-loop-again Inv-loop μ-loop
 loop-again c = search needs
 
+abbrev begun-from-after-loop : tie.After-loop Inv-loop μ-loop → tie.Start Inv-loop μ-loop
+begun-from-after-loop c = c .before .before .before .before
+
 -- src/main.rt:87:1
 same-length-2 : tie.Need-same-length-2 Inv-loop μ-loop
-same-length-2 c = known-long _ _ (c .before .loop .inv) ∙ sym (known-long _ _ (c .before .before .before .before .pre))
+same-length-2 c = known-long _ _ (c .before .loop .inv) ∙ sym (known-long _ _ (begun-from-after-loop c .pre))
 
 -- src/main.rt:87:1
 returns-2 : tie.Need-returns-2 Inv-loop μ-loop

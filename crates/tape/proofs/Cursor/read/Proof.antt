@@ -9,7 +9,10 @@ use Rattle.tape.proofs.Reader.{read-cut, read-bad, read-good}
 use Rattle.tape.proofs.Cursor.read.Statement.{statement}
 use Rattle.tape.proofs.Cursor.read.Tie as tie
 
-whole : (c : tie.Else1) → let s = c .before .before .before .args in s .self .at + 8 ≤ length (s .tape .now)
+abbrev begun : tie.Else1 → tie.Start
+begun c = c .before .before .before
+
+whole : (c : tie.Else1) → let s = begun c .args in s .self .at + 8 ≤ length (s .tape .now)
 whole c = leb-true _ _ (sym (c .before .is-whole .ensures) ∙ not-false _ (c .if1 .left))
 
 is-whole-requires : tie.Need-is-whole-requires
@@ -27,11 +30,14 @@ add-after c = omega (arith, whole (c .before))
 judge-requires : tie.Need-judge-requires
 judge-requires c κs = search needs
 
+abbrev at-else1 : tie.After-judge → tie.Else1
+at-else1 c = c .before .before
+
 returns-2 : tie.Need-returns-2
-returns-2 c = read-bad _ _ _ _ _ (whole (c .before .before .before)) (c .before .before .entry-at .ensures) (c .before .judge .ensures) (c .if2 .taken)
+returns-2 c = read-bad _ _ _ _ _ (whole (at-else1 (c .before))) (c .before .before .entry-at .ensures) (c .before .judge .ensures) (c .if2 .taken)
 
 returns-3 : tie.Need-returns-3
-returns-3 c = read-good _ _ _ _ _ (whole (c .before .before .before)) (c .before .before .entry-at .ensures) (c .before .judge .ensures) (c .if2 .left)
+returns-3 c = read-good _ _ _ _ _ (whole (at-else1 (c .before))) (c .before .before .entry-at .ensures) (c .before .judge .ensures) (c .if2 .left)
 
 pub read-spec : {M : Type 1} → statement M
 read-spec =

@@ -1,0 +1,117 @@
+// The one writer of records, each written as a part of the book; the writer of a single word; and the empty book.
+ghost use mathlib.Core.Path.{_≡_};
+ghost use mathlib.Core.List.{_∷_, _++_};
+ghost use Prim.Native.Nat.{_+_, _*_, _-_, _≤_, _<_};
+ghost use lib.ListN.{length, drop, replicate};
+ghost use Rattle.rules.specs.Answers.{Gives};
+ghost use Rattle.rules.specs.Hall.{mainHall, mostHeld};
+ghost use Rattle.rules.specs.Records.{words, filled, made, withWord, recordAt, put};
+ghost use Rattle.rules.specs.Bytes.{makeEmpty};
+use rules::Hall;
+use tokens::laying;
+
+// Every word 0.
+pub fn wipe(part: &mut [u32])
+    ensures { λ _. ⌜ now (part .exit) ≡ replicate (length (now (part .entry))) 0 ⌝ }
+{
+    let mut i = 0;
+    while i < part.len() {
+        part[i] = 0;
+        i += 1;
+    }
+}
+
+fn write_head(rec: &mut [u32], used: u32, amount: u32, count: u32, sales: u32)
+    requires { ⌜ 4 ≤ length (now rec) ⌝ }
+    ensures { λ _. ⌜ now (rec .exit) ≡ used ∷ amount ∷ count ∷ sales ∷ drop 4 (now (rec .entry)) ⌝ }
+{
+    rec[0] = used;
+    rec[1] = amount;
+    rec[2] = count;
+    rec[3] = sales;
+}
+
+// The cells that are filled, and zeros over what stood behind them.
+fn write_cells(cells: &mut [u32], new: &[u32])
+    requires { ⌜ length (now new) ≤ length (now cells) ⌝ }
+    ensures { λ _. ⌜ now (cells .exit) ≡ now (new .entry) ++ replicate (length (now (cells .entry)) - length (now (new .entry))) 0 ⌝ }
+{
+    laying::lay(cells, new);
+    let n = new.len();
+    wipe(&mut cells[n..]);
+}
+
+// The one record writer.
+pub fn write_record(rec: &mut [u32], used: u32, amount: u32, count: u32, sales: u32, cells: &[u32])
+    requires { ⌜ (length (now rec) ≡ words) × (length (now cells) ≤ mostHeld) ⌝ }
+    ensures { λ _. ⌜ now (rec .exit) ≡ filled used amount count sales (now (cells .entry)) ⌝ }
+{
+    write_head(rec, used, amount, count, sales);
+    write_cells(&mut rec[4..], cells);
+}
+
+// Record k, lent to the writer as a part from the book's middle.
+pub fn put_record(
+    book: &mut [u32],
+    k: usize,
+    used: u32,
+    amount: u32,
+    count: u32,
+    sales: u32,
+    cells: &[u32],
+)
+    requires { ⌜ (words * k + words ≤ length (now book)) × (length (now cells) ≤ mostHeld) ⌝ }
+    ensures { λ _. ⌜ now (book .exit) ≡ put k (filled used amount count sales (now (cells .entry))) (now (book .entry)) ⌝ }
+{
+    let from = 36 * k;
+    let to = from + 36;
+    write_record(&mut book[from..to], used, amount, count, sales, cells);
+}
+
+// Record k, in use and holding the tokens.
+pub fn put_made(book: &mut [u32], k: usize, amount: u32, sales: u32, tokens: &[u32])
+    requires { ⌜ (words * k + words ≤ length (now book)) × (length (now tokens) ≤ mostHeld) ⌝ }
+    ensures { λ _. ⌜ now (book .exit) ≡ put k (made amount sales (now (tokens .entry))) (now (book .entry)) ⌝ }
+{
+    let n = tokens.len() as u32;
+    put_record(book, k, 1, amount, n, sales, tokens);
+}
+
+// Record k, in use, from all of its 32 cells at once: nothing is left behind them to wipe, so that a caller who has laid
+// its tokens over a zeroed scratch record saves the copy of an unknown length and the wiping.
+pub fn put_whole(book: &mut [u32], k: usize, amount: u32, count: u32, sales: u32, cells: &[u32])
+    requires { ⌜ (words * k + words ≤ length (now book)) × (length (now cells) ≡ mostHeld) ⌝ }
+    ensures { λ _. ⌜ now (book .exit) ≡ put k (1 ∷ amount ∷ count ∷ sales ∷ now (cells .entry)) (now (book .entry)) ⌝ }
+{
+    put_record(book, k, 1, amount, count, sales, cells);
+}
+
+// Word w of record k alone, where it stands.
+pub fn set_word(book: &mut [u32], k: usize, w: usize, x: u32)
+    requires { ⌜ (words * k + words ≤ length (now book)) × (w < words) ⌝ }
+    ensures { λ _. ⌜ now (book .exit) ≡ put k (withWord w x (recordAt k (now (book .entry)))) (now (book .entry)) ⌝ }
+{
+    let at = 36 * k + w;
+    book[at] = x;
+}
+
+// ---- the empty book
+
+pub fn make_empty_of(h: Hall, book: &mut [u32]) -> u8
+    requires { ⌜ (h .customers ≤ 64) × (h .benches ≤ 64) ⌝ }
+    ensures { λ r. ⌜ Gives (makeEmpty h (now (book .entry))) r (now (book .exit)) ⌝ }
+{
+    if book.len() != super::book_words(h) {
+        return 1;
+    }
+    wipe(book);
+    let none = [0u32; 0];
+    put_made(book, 0, 0, 0, &none);
+    0
+}
+
+pub fn make_empty(book: &mut [u32]) -> u8
+    ensures { λ r. ⌜ Gives (makeEmpty mainHall (now (book .entry))) r (now (book .exit)) ⌝ }
+{
+    make_empty_of(super::MAIN, book)
+}

@@ -1,0 +1,42 @@
+-- A book after its records were written one after the other: what the next one is made from, and the book in the end.
+use mathlib.Core.Path.{_≡_, ap, _∙_}
+use Prim.Native.Nat.{_≤_, _<_}
+use native.Mathlib.Omega.{arith}
+use lib.ListN.{length-take, length-drop}
+use Rattle.rules.specs.Lists.{ℕ, _+_, _*_, _-_, List, length, take, drop}
+use Rattle.rules.specs.Hall.{mostHeld}
+use Rattle.rules.specs.Records.{words, made, withWord, recordAt, put}
+use Rattle.rules.specs.Steps.{dealt, fresh}
+use Rattle.laws.proofs.Blocks.{block-other}
+use Rattle.laws.proofs.Made.{made-long}
+
+-- a record written over a book that is known, made from what is known
+pub written : (k a a₁ s : ℕ) (xs xs₁ b b₁ new : List ℕ) → new ≡ put k (made a₁ s xs₁) b₁ → a₁ ≡ a → xs₁ ≡ xs → b₁ ≡ b
+    → new ≡ put k (made a s xs) b
+written k a a₁ s xs xs₁ b b₁ new e f g h = cc
+
+-- a word changed in a record of a book that is known, as the record stood
+pub changed : (k w x x₁ : ℕ) (r b b₁ new : List ℕ) → new ≡ put k (withWord w x₁ (recordAt k b₁)) b₁ → x₁ ≡ x → recordAt k b₁ ≡ r → b₁ ≡ b
+    → new ≡ put k (withWord w x r) b
+changed k w x x₁ r b b₁ new e f g h = cc
+
+-- record j, after a record before it, or behind it, was written
+module _ (k j a s : ℕ) (xs b new : List ℕ) (e : new ≡ put k (made a s xs) b) (fits : words * k + words ≤ length b) (l : length xs ≤ mostHeld) where
+  other-stays : (j ≡ k → ⊥) → recordAt j new ≡ recordAt j b
+  other-stays ne = ap (recordAt j) e ∙ block-other words k (made a s xs) b (made-long a s xs l) fits j ne
+
+  pub later-stays : k < j → recordAt j new ≡ recordAt j b
+  later-stays h = other-stays (λ q. omega arith)
+
+  pub earlier-stays : j < k → recordAt j new ≡ recordAt j b
+  earlier-stays h = other-stays (λ q. omega arith)
+
+-- the part of the token list that code lends
+pub next : (d n : ℕ) (ts b : List ℕ) → d ≡ dealt b → take (d + n - d) (drop d ts) ≡ fresh ts b n
+next d n ts b e = let q : d + n - d ≡ n = omega arith in rw (q, e)
+
+pub next-size : (d n : ℕ) (ts b : List ℕ) → d ≡ dealt b → dealt b + n ≤ length ts → n ≡ length (take (d + n - d) (drop d ts))
+next-size d n ts b e l = simp (length-take, length-drop) (omega (arith, e, l))
+
+pub fresh-few : (ts b : List ℕ) (n : ℕ) → n ≤ mostHeld → length (fresh ts b n) ≤ mostHeld
+fresh-few ts b n l = simp length-take (omega (arith, l))

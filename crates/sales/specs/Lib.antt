@@ -1,2 +1,0 @@
--- What the contracts cite beside the rules: the records that a sale and a clear name.
-pub mod Spots

@@ -1,0 +1,45 @@
+-- What a kind's function answers: a refusal leaves the book, and where the checks pass the book is the changed one. Words that
+-- were read are the words of the records.
+use mathlib.Core.Path.{_≡_, sym, ap, _∙_}
+use lib.Seq.{getD-drop}
+use Rattle.rules.specs.declared.Hall.{Hall}
+use Rattle.rules.specs.declared.Entry.{Entry}
+use Rattle.rules.specs.Lists.{ℕ, _+_, List, [], drop, getD}
+use Rattle.rules.specs.Hall.{Place, BenchView, Till, number}
+use Rattle.rules.specs.Records.{amount, cells, held, made, withAmount, recordAt, put}
+use Rattle.rules.specs.Steps.{putAll, dealt, fresh, joining, dealing, authenticating}
+pub use Rattle.rules.proofs.Answering.{refused, granted}
+
+-- a chain is told the words as they were read
+pub of-words : (f : ℕ → ℕ → ℕ → ℕ → ℕ → ℕ) {x a a′ b b′ c c′ d d′ e e′ : ℕ}
+    → x ≡ f a b c d e → a ≡ a′ → b ≡ b′ → c ≡ c′ → d ≡ d′ → e ≡ e′ → x ≡ f a′ b′ c′ d′ e′
+of-words f y p q r s t = y ∙ rw (p, q, r, s, t)
+
+-- a record's fifth word is its first cell
+pub first-cell : (r : List ℕ) {x : ℕ} → x ≡ getD r 4 0 → x ≡ getD (cells r) 0 0
+first-cell r e = e ∙ sym (getD-drop 4 r 0 0)
+
+-- ---- at the numbers found for places
+-- a word is read
+pub word-at : (b : List ℕ) (w : ℕ) {k j x : ℕ} → k ≡ j → x ≡ getD (recordAt k b) w 0 → x ≡ getD (recordAt j b) w 0
+word-at b w p e = e ∙ ap (λ (i : ℕ). getD (recordAt i b) w 0) p
+
+module _ (h : Hall) (b : List ℕ) (own view : Place) {k j : ℕ} (p : k ≡ number h own) (q : j ≡ number h view) {after : List ℕ} where
+  -- a party comes in
+  pub as-entered : (a : ℕ) → after ≡ put j (made a 0 []) (put k (made 0 0 []) b) → after ≡ putAll h (joining own view a) b
+  unfolding joining putAll
+  as-entered a e = e ∙ rw (p, q)
+
+  -- tokens are dealt, by words as they were read
+  pub as-dealt : (ts : List ℕ) {a a′ n n′ : ℕ} → a ≡ a′ → n ≡ n′
+      → after ≡ put 0 (withAmount (dealt b + n) (recordAt 0 b)) (put j (made a 0 (fresh ts b n)) (put k (made 0 0 (fresh ts b n)) b))
+      → after ≡ putAll h (dealing ts b own view a′ n′) b
+  unfolding dealing putAll
+  as-dealt ts r s e = e ∙ rw (p, q, r, s)
+
+-- a bench's till and view lose their first token
+pub as-used-up : (h : Hall) (b : List ℕ) (e : Entry) {k j : ℕ} → k ≡ number h (Till (e .bench)) → j ≡ number h (BenchView (e .bench)) → {after : List ℕ}
+    → after ≡ put j (made (amount (recordAt j b)) 0 (drop 1 (held (recordAt j b)))) (put k (made 0 0 (drop 1 (held (recordAt k b)))) b)
+    → after ≡ putAll h (authenticating h b e) b
+unfolding authenticating putAll
+as-used-up h b e p q r = r ∙ rw (p, q)

@@ -1,0 +1,29 @@
+-- Each promise of this crate determines its outcome: what a caller sees of a public function, its result and each lent cell
+-- afterwards, is a value of the arguments.
+use Prim.Native.Nat.{ℕ}
+use mathlib.Core.List.{List}
+use Rattle.rules.proofs.Determined.{Determined, determined, both}
+use Rattle.steps.proofs.join_customer.Reads as join-customer-call
+use Rattle.steps.proofs.join_bench.Reads as join-bench-call
+use Rattle.steps.proofs.open_line.Reads as open-line-call
+use Rattle.steps.proofs.update.Reads as update-call
+use Rattle.steps.proofs.stock.Reads as stock-call
+use Rattle.steps.proofs.authenticate.Reads as authenticate-call
+
+join-customer-determined : (κs : _) (a : _) → Determined {O = ℕ × List ℕ} (join-customer-call.Learnt κs a) (λ z e. (z, e .1 .0 .now))
+join-customer-determined κs a = determined _ _ _ (λ z e p. both (p .number) (p .cells))
+
+join-bench-determined : (κs : _) (a : _) → Determined {O = ℕ × List ℕ} (join-bench-call.Learnt κs a) (λ z e. (z, e .1 .0 .now))
+join-bench-determined κs a = determined _ _ _ (λ z e p. both (p .number) (p .cells))
+
+open-line-determined : (κs : _) (a : _) → Determined {O = ℕ × List ℕ} (open-line-call.Learnt κs a) (λ z e. (z, e .1 .0 .now))
+open-line-determined κs a = determined _ _ _ (λ z e p. both (p .number) (p .cells))
+
+update-determined : (κs : _) (a : _) → Determined {O = ℕ × List ℕ} (update-call.Learnt κs a) (λ z e. (z, e .1 .1 .0 .now))
+update-determined κs a = determined _ _ _ (λ z e p. both (p .number) (p .cells))
+
+stock-determined : (κs : _) (a : _) → Determined {O = ℕ × List ℕ} (stock-call.Learnt κs a) (λ z e. (z, e .1 .1 .0 .now))
+stock-determined κs a = determined _ _ _ (λ z e p. both (p .number) (p .cells))
+
+authenticate-determined : (κs : _) (a : _) → Determined {O = ℕ × List ℕ} (authenticate-call.Learnt κs a) (λ z e. (z, e .1 .0 .now))
+authenticate-determined κs a = determined _ _ _ (λ z e p. both (p .number) (p .cells))

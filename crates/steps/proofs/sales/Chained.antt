@@ -1,0 +1,27 @@
+-- Two chains, one behind the other: the first decides where it refuses, and the second where the first lets pass.
+use mathlib.Core.Path.{_≡_, refl, sym, _∙_}
+use Rattle.rules.specs.Lists.{ℕ, List, _++_, getD}
+use Rattle.rules.specs.Answers.{Rule, first}
+use Rattle.rules.specs.Records.{inUse, count, sales, recordAt}
+use Rattle.rules.proofs.Answering.{first-past}
+use Rattle.kinds.specs.Chains.{lineRules, saleRules}
+use Rattle.steps.specs.declared.sales.Spots.{Spots}
+use Rattle.steps.specs.Spots.{knownAt, saleAt}
+
+module _ (b : List ℕ) (at : Spots) where
+  -- over the words as they were read
+  pub known-judged : (u v w r : ℕ) → u ≡ getD (recordAt (at .bench) b) 0 0 → v ≡ getD (recordAt (at .view) b) 0 0 → w ≡ getD (recordAt (at .line) b) 0 0
+      → r ≡ first (lineRules u v w) → r ≡ first (knownAt b at)
+  unfolding knownAt inUse
+  known-judged u v w r p q s n = n ∙ rw (p, q, s)
+
+  -- the line is known, and a later chain answers
+  module _ (r : ℕ) (known : r ≡ first (knownAt b at)) (zero : r ≡ 0) where
+    pub known-then : (more : List Rule) (s : ℕ) → s ≡ first more → s ≡ first (knownAt b at ++ more)
+    unfolding knownAt lineRules
+    known-then more s n = n ∙ sym (first-past (knownAt b at) more refl (sym known ∙ zero))
+
+    pub sale-judged : (n u v w s : ℕ) → u ≡ getD (recordAt (at .carnet) b) 2 0 → v ≡ getD (recordAt (at .line) b) 2 0 → w ≡ getD (recordAt (at .line) b) 3 0
+        → s ≡ first (saleRules u v w n) → s ≡ first (saleAt b at n)
+    unfolding saleAt count sales
+    sale-judged n u v w s p q t m = known-then _ s (m ∙ rw (p, q, t))

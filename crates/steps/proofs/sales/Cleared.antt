@@ -1,0 +1,97 @@
+-- A clear, by the numbers found: the tokens that are gone, whether they live, what is settled, and the book afterwards.
+use mathlib.Core.Path.{_≡_, sym, ap, _∙_, subst}
+use Prim.Native.Nat.{_≤_, _<_}
+use native.Mathlib.Omega.{arith}
+use Rattle.rules.specs.declared.Hall.{Hall}
+use Rattle.rules.specs.declared.Entry.{Entry}
+use Rattle.rules.specs.Lists.{ℕ, _+_, _*_, Bool, List, [], _++_, length, take, getD, every, isIn, without}
+use Rattle.rules.specs.Hall.{mostHeld, mostSales}
+use Rattle.rules.specs.Answers.{Rule, first}
+use Rattle.rules.specs.Records.{words, amount, count, sales, held, made, withAmount, recordAt, put}
+use Rattle.rules.specs.Form.{Form}
+use Rattle.rules.specs.Steps.{theView, theLine, settling, clearing, putAll}
+use Rattle.laws.proofs.Blocks.{block-size}
+use Rattle.tokens.specs.Laid.{laid}
+use Rattle.kinds.specs.Chains.{clearRules}
+use Rattle.changes.specs.Found.{Account}
+use Rattle.changes.proofs.Scratch.{first-laid}
+use Rattle.kinds.specs.Kinds.{knownLine}
+use Rattle.steps.specs.declared.sales.Spots.{Spots}
+use Rattle.steps.specs.Spots.{knownAt}
+use Rattle.rules.proofs.Answering.{first-refuses}
+use Rattle.steps.proofs.sales.Chained.{known-then}
+use Rattle.steps.proofs.sales.Stood.{Case, inside, ready, all-stand, few-tokens, few-sales, counted}
+
+-- every token that is gone lives in the view
+abbrev lives : List ℕ → Spots → List ℕ → Bool
+lives b at gone = every (λ t. isIn t (held (recordAt (at .view) b))) gone
+
+-- the three records of a settled line
+abbrev settled : List ℕ → Spots → List ℕ → List ℕ
+settled b at gone =
+    put (at .line) (made 0 0 [])
+    (put (at .bench) (withAmount (amount (recordAt (at .bench) b) + length gone) (recordAt (at .bench) b))
+    (put (at .view) (made (amount (recordAt (at .view) b)) 0 (without gone (held (recordAt (at .view) b)))) b))
+
+-- the chain of a clear, as the rules have it
+abbrev pub clearChain : Form → Hall → List ℕ → List ℕ → Entry → List Rule
+clearChain f h ts b e = knownLine h b e ++ clearRules (every (λ t. isIn t (held (theView h b e))) (f .tokens ts (theLine h b e)))
+
+module _ {f : Form} {h : Hall} {ts b : List ℕ} {e : Entry} {at : Spots} (case : Case f h ts b e 9 at) where
+  -- ---- the tokens that are gone
+  pub gone-few : (n : ℕ) → n ≡ getD (recordAt (at .line) b) 2 0 → n ≤ mostHeld
+  unfolding count
+  gone-few n p = rw p (few-tokens case)
+
+  pub line-fit : (r : List ℕ) → r ≡ recordAt (at .line) b → (length r ≡ words) × (sales r ≤ mostSales)
+  line-fit r p = (block-size words (at .line) b r (all-stand case .line) p, rw p (few-sales case))
+
+  pub first-gone : (n : ℕ) (r cells out : List ℕ) → n ≡ getD (recordAt (at .line) b) 2 0 → r ≡ recordAt (at .line) b
+      → length out ≡ mostHeld → cells ≡ laid (f .tokens ts r) out → take n cells ≡ f .tokens ts (recordAt (at .line) b)
+  unfolding count
+  first-gone n r cells out p q l c =
+      first-laid n (f .tokens ts (recordAt (at .line) b)) out cells
+      (p ∙ sym (counted case)) (omega (arith, l, counted case, few-tokens case))
+      (c ∙ ap (λ (x : List ℕ). laid (f .tokens ts x) out) q)
+
+  -- ---- the number
+  pub line-refused : (r : ℕ) → r ≡ first (knownAt b at) → (r ≡ 0 → ⊥) → r ≡ first (clearChain f h ts b e)
+  unfolding knownAt knownLine
+  line-refused r n z = first-refuses (knownLine h b e) _ r (n ∙ ap (λ (s : Spots). first (knownAt b s)) (case .found)) z
+
+  module _ (gone : List ℕ) (all : gone ≡ f .tokens ts (recordAt (at .line) b)) where
+    pub clear-number : (r s : ℕ) (l : Bool) (view : List ℕ) → r ≡ first (knownAt b at) → r ≡ 0 → view ≡ held (recordAt (at .view) b)
+        → l ≡ every (λ t. isIn t view) gone → s ≡ first (clearRules l) → s ≡ first (clearChain f h ts b e)
+    unfolding knownAt knownLine
+    clear-number r s l view n z v a m =
+        known-then b at r n z _ s
+        (m
+        ∙ ap (λ (x : Bool). first (clearRules x))
+        (a ∙ ap (λ (x : List ℕ). every (λ t. isIn t x) gone) v ∙ ap (lives b at) all))
+        ∙ ap (λ (s : Spots). first (knownAt b s ++ clearRules (lives b s (f .tokens ts (recordAt (s .line) b))))) (case .found)
+
+    -- ---- the book afterwards
+    pub clear-written : (new : List ℕ) → new ≡ settled b at gone → new ≡ putAll h (clearing h b e f ts) b
+    unfolding putAll settling clearing
+    clear-written new w = w ∙ ap (settled b at) all ∙ ap (λ (s : Spots). settled b s (f .tokens ts (recordAt (s .line) b))) (case .found)
+
+    -- ---- what is settled
+    balance : amount (recordAt (at .bench) b) + length gone < 4294967296
+    balance =
+        omega (
+          arith,
+          ap length all,
+          counted case,
+          few-tokens case,
+          case .placed .customers,
+          subst (λ (s : Spots). amount (recordAt (s .bench) b) ≤ 1000000 * h .customers) (sym (case .found)) (ready case .balances (e .bench) (inside case .0)),
+        )
+
+    pub account : Account b (at .view) (at .bench) (at .line) gone
+    account =
+        record {
+          views-apart = subst (λ (s : Spots). s .view < s .bench) (sym (case .found)) (omega (arith, inside case .1));
+          line-apart = subst (λ (s : Spots). s .bench < s .line) (sym (case .found)) (omega (arith, inside case .0));
+          line-stands = all-stand case .line;
+          fits = balance;
+        }

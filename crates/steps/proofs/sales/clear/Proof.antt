@@ -1,0 +1,168 @@
+-- The tokens gathered are those that the line stands for; they are judged, and they are struck.
+use mathlib.Core.Path.{_≡_, refl}
+use Prim.Native.Nat.{_≤_}
+use native.Mathlib.Omega.{arith}
+use lib.ListN.{length-take}
+use Rattle.rules.specs.Lists.{take, occ}
+use Rattle.rules.specs.Hall.{mostHeld}
+use Rattle.rules.specs.Answers.{first}
+use Rattle.rules.specs.Records.{recordAt}
+use Rattle.book.specs.Forms.{formOf}
+use Rattle.kinds.specs.Kinds.{clear}
+use Rattle.steps.proofs.Answered.{refused, granted}
+use Rattle.steps.proofs.sales.Stood.{Case, called, all-stand}
+use Rattle.steps.proofs.sales.Cleared.{clearChain, gone-few, line-fit, first-gone, line-refused, clear-number, clear-written, account}
+use borrow.Author.Needs.{needs}
+use Rattle.steps.proofs.sales.clear.Statement.{statement}
+use Rattle.steps.proofs.sales.clear.Tie as tie
+
+find-requires : tie.Need-find-requires
+find-requires c κs = search needs
+
+abbrev begun-from-find : tie.After-find → tie.Start
+begun-from-find c = c .before .before .before
+
+case : (c : tie.After-find) → let s = begun-from-find c .args in Case (formOf (s .form)) (s .h) (s .tokens .now) (s .book .now) (s .e) 9 (c .find .result)
+unfolding occ
+case c = called (begun-from-find c .args .form) (begun-from-find c .pre) refl refl (c .find .ensures)
+
+known-line-requires : tie.Need-known-line-requires
+known-line-requires c κs = all-stand (case (c .before))
+
+same-length : tie.Need-same-length
+same-length c = search needs
+
+abbrev at-find-from-known-line : tie.After-known-line → tie.After-find
+at-find-from-known-line c = c .before .before
+
+returns : tie.Need-returns
+unfolding clear
+returns c = refused _ _ _ _ (line-refused (case (at-find-from-known-line (c .before))) _ (c .before .known-line .ensures) (c .if1 .taken)) (c .if1 .taken)
+
+abbrev at-find-from-word-of-arg : tie.After-word-of-arg → tie.After-find
+at-find-from-word-of-arg c = at-find-from-known-line (c .before .before)
+
+word-of-requires : tie.Need-word-of-requires
+word-of-requires c κs = (all-stand (case (at-find-from-word-of-arg c)) .line, omega arith)
+
+cast-n : tie.Need-cast-n
+cast-n c = search needs
+
+record-at-requires : tie.Need-record-at-requires
+record-at-requires c κs = all-stand (case (at-find-from-word-of-arg (c .before .before))) .line
+
+slice-aggregate-gather-line : tie.Need-slice-aggregate-gather-line
+slice-aggregate-gather-line c = search needs
+
+abbrev at-known-line : tie.After-gone → tie.After-known-line
+at-known-line c = c .before .before .before .before .before .before
+
+gather-line-requires : tie.Need-gather-line-requires
+gather-line-requires c κs = line-fit (case (at-find-from-known-line (at-known-line c))) _ (c .before .record-at .ensures)
+
+abbrev at-find-from-gather-line : tie.After-gather-line → tie.After-find
+at-find-from-gather-line c = at-find-from-known-line (at-known-line (c .before))
+
+tokens-at-requires : tie.Need-tokens-at-requires
+tokens-at-requires c κs = let stand = all-stand (case (at-find-from-gather-line (c .before .before))) in search needs
+
+few : (c : tie.After-word-of) → c .word-of .result ≤ mostHeld
+few c = gone-few (case (at-find-from-word-of-arg (c .before))) _ (c .word-of .ensures)
+
+abbrev at-word-of : tie.After-gather-line → tie.After-word-of
+at-word-of c = c .before .before .before .before
+
+-- the first cells of the scratch record are the tokens that the line stands for
+gone : (c : tie.After-gather-line) → let s = at-find-from-gather-line c in
+    take (at-word-of c .word-of .result) (c .gather-line .last .1 .1 .1 .0) ≡ formOf (begun-from-find s .args .form) .tokens (begun-from-find s .args .tokens .now) (recordAt (s .find .result .line) (begun-from-find s .args .book .now))
+gone c =
+    first-gone (case (at-find-from-gather-line c)) _ _ _ _ (at-word-of c .word-of .ensures) (c .before .before .record-at .ensures) refl (c .gather-line .ensures)
+
+abbrev at-gather-line-from-tokens-at : tie.After-tokens-at → tie.After-gather-line
+at-gather-line-from-tokens-at c = c .before .before .before
+
+array-share-prefix-gone : tie.Need-array-share-prefix-gone
+array-share-prefix-gone c = omega (arith, few (at-word-of (at-gather-line-from-tokens-at c)), at-gather-line-from-tokens-at c .gather-line .kept .1 .1 .1 .0)
+
+slice-aggregate-all-in : tie.Need-slice-aggregate-all-in
+slice-aggregate-all-in c = simp length-take (omega (arith, few (at-word-of (at-gather-line-from-tokens-at (c .before))), at-gather-line-from-tokens-at (c .before) .gather-line .kept .1 .1 .1 .0))
+
+all-in-requires : tie.Need-all-in-requires
+all-in-requires c κs = search needs
+
+clear-requires : tie.Need-clear-requires
+clear-requires c κs = search needs
+
+same-length-2 : tie.Need-same-length-2
+same-length-2 c = search needs
+
+abbrev at-tokens-at : tie.After-clear → tie.After-tokens-at
+at-tokens-at c = c .before .before .before
+
+abbrev begun-from-clear : tie.After-clear → tie.Start
+begun-from-clear c = begun-from-find (at-find-from-gather-line (at-gather-line-from-tokens-at (at-tokens-at c)))
+
+number : (c : tie.After-clear) → let s = begun-from-clear c .args in c .clear .result ≡ first (clearChain (formOf (s .form)) (s .h) (s .tokens .now) (s .book .now) (s .e))
+number c =
+    let gathered = at-gather-line-from-tokens-at (at-tokens-at c) in
+    let known = at-known-line (gathered .before) in
+    clear-number (case (known .before .before)) _ (gone gathered) _ _ _ _ (known .known-line .ensures) (at-word-of gathered .before .before .if1 .left) (at-tokens-at c .tokens-at .ensures) (c .before .all-in .ensures) (c .clear .ensures)
+
+returns-2 : tie.Need-returns-2
+unfolding clear
+returns-2 c = refused _ _ _ _ (number (c .before)) (c .if2 .taken)
+
+abbrev at-gather-line-from-settle-arg : tie.After-settle-arg → tie.After-gather-line
+at-gather-line-from-settle-arg c = at-gather-line-from-tokens-at (at-tokens-at (c .before .before))
+
+array-share-prefix-gone-2 : tie.Need-array-share-prefix-gone-2
+array-share-prefix-gone-2 c = omega (arith, few (at-word-of (at-gather-line-from-settle-arg c)), at-gather-line-from-settle-arg c .gather-line .kept .1 .1 .1 .0)
+
+slice-aggregate-settle : tie.Need-slice-aggregate-settle
+slice-aggregate-settle c = simp length-take (omega (arith, few (at-word-of (at-gather-line-from-settle-arg (c .before))), at-gather-line-from-settle-arg (c .before) .gather-line .kept .1 .1 .1 .0))
+
+settle-requires : tie.Need-settle-requires
+settle-requires c κs =
+    let gathered = at-gather-line-from-settle-arg (c .before) in
+    account (case (at-find-from-gather-line gathered)) _ (gone gathered)
+
+same-length-3 : tie.Need-same-length-3
+same-length-3 c = search needs
+
+abbrev at-else2 : tie.After-slice-known2 → tie.Else2
+at-else2 c = c .before .before .before .before .before
+
+abbrev at-gather-line-from-slice-known2 : tie.After-slice-known2 → tie.After-gather-line
+at-gather-line-from-slice-known2 c = at-gather-line-from-settle-arg (c .before .before .before .before)
+
+returns-3 : tie.Need-returns-3
+unfolding clear
+returns-3 c =
+    granted _ _ _ _ (number (at-else2 c .before)) _ (at-else2 c .if2 .left)
+    (clear-written (case (at-find-from-gather-line (at-gather-line-from-slice-known2 c))) _ (gone (at-gather-line-from-slice-known2 c)) _ (c .before .before .settle .ensures))
+
+pub clear-spec : {M : Type 1} → statement M
+clear-spec =
+    tie.close
+    (tie.spec
+    find-requires
+    known-line-requires
+    same-length
+    returns
+    word-of-requires
+    cast-n
+    record-at-requires
+    slice-aggregate-gather-line
+    gather-line-requires
+    tokens-at-requires
+    array-share-prefix-gone
+    slice-aggregate-all-in
+    all-in-requires
+    clear-requires
+    same-length-2
+    returns-2
+    array-share-prefix-gone-2
+    slice-aggregate-settle
+    settle-requires
+    same-length-3
+    returns-3)

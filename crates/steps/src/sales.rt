@@ -1,0 +1,103 @@
+// The two kinds that work on a line, a sale and a clear: one text for both forms of the book.
+// Inner, all of them: the step has found the book sound and the record well formed, and calls the function of its kind.
+ghost use mathlib.Core.Path.{_≡_};
+ghost use Prim.Native.Nat.{_≤_};
+ghost use Rattle.rules.specs.Answers.{first, Gives};
+ghost use Rattle.book.specs.Forms.{formOf};
+ghost use Rattle.kinds.specs.Kinds.{sell, clear, Placed, Passed};
+ghost use Rattle.steps.specs.Spots.{spotsOf, Stand, knownAt, saleAt};
+use book::forms::Form;
+use changes::lines;
+use rules::Entry;
+use rules::Hall;
+use tokens::searching;
+
+// The numbers of the records that both name: the carnet, the desk's views of customer and bench, the line.
+struct Spots {
+    carnet: usize,
+    view: usize,
+    bench: usize,
+    line: usize,
+}
+
+fn find(h: Hall, e: Entry) -> Spots
+    requires { ⌜ (h .customers ≤ 64) × (h .benches ≤ 64) ⌝ }
+    ensures { λ r. ⌜ r ≡ spotsOf h e ⌝ }
+{
+    Spots {
+        carnet: book::carnet(h, e.customer),
+        view: book::view(h, e.customer),
+        bench: book::bench_view(h, e.bench),
+        line: book::line(h, e.bench, e.customer),
+    }
+}
+
+// ---- the checks
+
+// Whether bench, customer and line are known.
+fn known_line(book: &[u32], at: Spots) -> u8
+    requires { ⌜ Stand (now book) at ⌝ }
+    ensures { λ r. ⌜ r ≡ first (knownAt (now (book .entry)) at) ⌝ }
+{
+    checks::line(
+        book::word_of(book, at.bench, 0),
+        book::word_of(book, at.view, 0),
+        book::word_of(book, at.line, 0),
+    )
+}
+
+// Then whether the carnet has n tokens, and the line room for them: asked of any line, and told of a known one.
+fn judge_sale(book: &[u32], at: Spots, n: u32) -> u8
+    requires { ⌜ Stand (now book) at ⌝ }
+    ensures { λ r. ⌜ r ≡ first (saleAt (now (book .entry)) at n) ⌝ }
+{
+    let known = known_line(book, at);
+    let sale = checks::sale(
+        book::word_of(book, at.carnet, 2),
+        book::word_of(book, at.line, 2),
+        book::word_of(book, at.line, 3),
+        n,
+    );
+    if known != 0 {
+        return known;
+    }
+    sale
+}
+
+// ---- the kinds
+
+// The list is what the book is sound over: nothing of it is read.
+pub fn sell(form: Form, h: Hall, tokens: &[u32], book: &mut [u32], e: Entry) -> u8
+    requires { ⌜ Placed h (now book) e 6 × Passed (formOf form) h (now tokens) (now book) e ⌝ }
+    ensures { λ r. ⌜ Gives (sell h (now (book .entry)) e (formOf form)) r (now (book .exit)) ⌝ }
+{
+    let at = find(h, e);
+    let refused = judge_sale(book, at, e.amount);
+    if refused != 0 {
+        return refused;
+    }
+    lines::sell(form, book, at.carnet, at.line, e.amount);
+    0
+}
+
+// Where the line's tokens all live in the customer's view, they are struck from it, and the bench is paid.
+pub fn clear(form: Form, h: Hall, tokens: &[u32], book: &mut [u32], e: Entry) -> u8
+    requires { ⌜ Placed h (now book) e 9 × Passed (formOf form) h (now tokens) (now book) e ⌝ }
+    ensures { λ r. ⌜ Gives (clear h (now (book .entry)) e (formOf form) (now (tokens .entry))) r (now (book .exit)) ⌝ }
+{
+    let at = find(h, e);
+    let refused = known_line(book, at);
+    if refused != 0 {
+        return refused;
+    }
+    let mut gone = [0u32; 32];
+    let n = book::word_of(book, at.line, 2) as usize;
+    lines::gather_line(form, tokens, book::record_at(book, at.line), &mut gone);
+    let lives = searching::all_in(book::tokens_at(book, at.view), &gone[..n]);
+    let refused = checks::clear(lives);
+    if refused != 0 {
+        return refused;
+    }
+    changes::settle(book, at.view, at.bench, at.line, &gone[..n]);
+    0
+}
