@@ -108,6 +108,11 @@ module _ (h : Hall) (ts b : List ℕ) (e : Entry) (v : verdict plain h ts b e �
   unfolding effect
   plain-money = fine-money h ts b ok _ _ _ (changes h b e plain ts (e .kind)) whole all-apart (step-fine whole .1 .1)
 
+-- ---- a form's granted steps leave the hall with the money it had and what the record brings in
+abbrev pub Money : Form → Type 0
+Money f = (h : Hall) (ts b : List ℕ) (e : Entry) → verdict f h ts b e ≡ 0
+    → total h (λ k. recordAt k (effect f h ts b e)) ≡ total h (λ k. recordAt k b) + brings (e .kind) e
+
 -- ---- a form whose granted steps keep its books sound
 abbrev pub Keeps : Form → Type 0
 Keeps f = (h : Hall) (ts b : List ℕ) (e : Entry) → verdict f h ts b e ≡ 0 → f .good h ts (effect f h ts b e) ≡ true
