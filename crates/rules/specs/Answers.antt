@@ -1,6 +1,5 @@
 -- Answers: the first number of a table whose test holds, and the lent cells afterwards.
-use mathlib.Core.Path.{_≡_}
-use Rattle.rules.specs.Lists.{ℕ, Bool, cond, eqb, List, [], _∷_}
+use Rattle.rules.specs.Lists.{_≡_, ℕ, Bool, cond, eqb, List, [], _∷_}
 
 -- a line of a table: the number is given when its test is the first that holds
 pub data Rule : Type 0 where

@@ -1,6 +1,5 @@
 -- Verdict numbers: the table, in its order; a step; a run over a whole tape.
-use mathlib.Core.Path.{_≡_}
-use Rattle.rules.specs.Lists.{ℕ, _+_, _*_, Bool, cond, not, _&&_, _||_, leb, ltb, eqb, List, [], _∷_, _++_, length, getD, every, isIn}
+use Rattle.rules.specs.Lists.{_≡_, ℕ, _+_, _*_, Bool, cond, not, _&&_, _||_, leb, ltb, eqb, List, [], _∷_, _++_, length, getD, every, isIn}
 use Rattle.rules.specs.Hall.{Hall, mostHeld, mostSales, mostBudget}
 use Rattle.rules.specs.Answers.{Rule, _⇐_, first, Answer, answer}
 use Rattle.rules.specs.Records.{inUse, amount, count, sales, cells, held}

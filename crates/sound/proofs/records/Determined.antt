@@ -1,4 +1,4 @@
--- Each promise of this crate determines its outcome: what a caller sees of a public function, its result and each lent cell
+-- Each promise of this module determines its outcome: what a caller sees of a public function, its result and each lent cell
 -- afterwards, is a value of the arguments.
 use Rattle.rules.proofs.Determined.{Determined, determined}
 use Rattle.sound.proofs.records.is_kept.Reads as is-kept-call
