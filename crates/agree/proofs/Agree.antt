@@ -1,4 +1,4 @@
--- When a plain book and a slip book agree, as document 01 says it; and that a sound slip book agrees with its opened book alone.
+-- A sound slip book agrees with its opened book, and with no other sound plain book.
 use mathlib.Core.Path.{_≡_, sym, ap, _∙_}
 use mathlib.Core.Logic.{⊎-elim}
 use Prim.Native.Nat.{_≤_, _<_}
@@ -7,7 +7,8 @@ use Rattle.rules.specs.Lists.{ℕ, true, List}
 use Rattle.rules.specs.Hall.{Line, number, records}
 use Rattle.rules.specs.Records.{words, inUse, count, sales, held, filled, recordAt}
 use Rattle.rules.specs.Sound.{sound}
-use Rattle.rules.specs.Slips.{slipTokens, openBook}
+use Rattle.rules.specs.Slips.{openBook}
+use Rattle.rules.specs.Agree.{SameLine, Agree}
 use Rattle.rules.proofs.Tests.{below}
 use Rattle.laws.proofs.Blocks.{block-ext}
 use Rattle.laws.proofs.Reflect.{Book, sound-facts}
@@ -16,18 +17,6 @@ use Rattle.laws.proofs.Books.{long-at, line-at}
 use Rattle.laws.proofs.Opened.{open-same}
 use Rattle.laws.proofs.ReflectSlips.{SlipSound}
 use Rattle.agree.proofs.SameVerdict.{opened-book, word-use, word-count, word-sales, line-tokens}
-
--- a plain line p and a slip line s: as used, as full and as often sold to; opened, s holds p's tokens in p's order
-pub record SameLine (ts p s : List ℕ) : Type 0 where
-  pub used : inUse p ≡ inUse s
-  pub counts : count p ≡ count s
-  pub sold : sales p ≡ sales s
-  pub opens : held p ≡ slipTokens ts s
-
--- a plain book p and a slip book s: lines agree as above, and every other record is equal
-pub record Agree (h : Hall) (ts p s : List ℕ) : Type 0 where
-  pub others : (k : ℕ) → k < number h (Line 0 0) → recordAt k p ≡ recordAt k s
-  pub lines : (k : ℕ) → number h (Line 0 0) ≤ k → k < records h → SameLine ts (recordAt k p) (recordAt k s)
 
 module _ (h : Hall) (ts s : List ℕ) (ok : SlipSound h ts s) where
   pub agree-opened : Agree h ts (openBook h ts s) s

@@ -1,6 +1,7 @@
 -- Demand 3: over every tape, from the two empty books, the plain book and the slip book agree.
 use mathlib.Core.Path.{_≡_, refl, sym, ap, _∙_, subst}
 use mathlib.Core.Logic.{⊎-elim}
+use native.Mathlib.Omega.{arith}
 use Rattle.rules.specs.declared.Hall.{Hall}
 use Rattle.rules.specs.declared.Entry.{Entry}
 use Rattle.rules.specs.Lists.{ℕ, _*_, true, List, [], length}
@@ -8,6 +9,7 @@ use Rattle.rules.specs.Sound.{goodList, sound, emptyBook}
 use Rattle.rules.specs.Tape.{entries}
 use Rattle.rules.specs.Form.{plain}
 use Rattle.rules.specs.Slips.{openBook, slipSound, slip}
+use Rattle.rules.specs.Agree.{Agree}
 use Rattle.rules.specs.Verdicts.{step, Ran, steps, run}
 use Rattle.rules.proofs.Tests.{same}
 use Rattle.rules.proofs.Running.{steps-answer, run-does, run-short}
@@ -15,7 +17,7 @@ use Rattle.laws.proofs.Empty.{empty-sound, empty-slip-sound, empty-opens}
 use Rattle.laws.proofs.ReflectSlips.{SlipSound, slip-sound-facts}
 use Rattle.keeps.proofs.Keeps.{plain-keeps, step-keeps, steps-keep}
 use Rattle.agree.proofs.SameRun.{slip-keeps, SameStep, same-step, SameRun, same-run}
-use Rattle.agree.proofs.Agree.{Agree, agree-opened, agree-is-opened}
+use Rattle.agree.proofs.Agree.{agree-opened, agree-is-opened}
 
 -- ---- step by step: sound books that agree answer the same, and stay sound and in agreement
 pub record Stepwise (h : Hall) (ts p s : List ℕ) (e : Entry) : Type 0 where
@@ -59,29 +61,30 @@ agreement h ts good es =
           (agree-opened h ts (steps slip h ts (emptyBook h) es .book) (slip-sound-facts h ts _ kept));
     }
 
--- ---- over every tape of bytes and every verdict buffer, a tape that is cut among them
+-- ---- over every tape of bytes, a tape that is cut among them, and two verdict buffers of one length, whatever they held before
 pub record RunAgreement (h : Hall) (ts : List ℕ) (p s : Ran) : Type 0 where
   pub answers : p .answer ≡ s .answer
-  pub verdicts : p .verdicts ≡ s .verdicts
+  pub verdicts : p .answer ≡ 0 → p .verdicts ≡ s .verdicts
   pub books : Agree h ts (p .book) (s .book)
 
-pub run-agreement : (h : Hall) (ts : List ℕ) → goodList ts ≡ true → (tape out : List ℕ)
-    → RunAgreement h ts (run plain h ts (emptyBook h) tape out) (run slip h ts (emptyBook h) tape out)
+pub run-agreement : (h : Hall) (ts : List ℕ) → goodList ts ≡ true → (tape out out′ : List ℕ) → length out ≡ length out′
+    → RunAgreement h ts (run plain h ts (emptyBook h) tape out) (run slip h ts (emptyBook h) tape out′)
 unfolding steps
-run-agreement h ts good tape out =
+run-agreement h ts good tape out out′ long =
     let empty : List ℕ = emptyBook h in
     let sound-p : sound h ts (emptyBook h) ≡ true = empty-sound h ts good in
     let sound-s : slipSound h ts (emptyBook h) ≡ true = empty-slip-sound h ts good in
     ⊎-elim
     (λ (l : length tape ≡ 8 * length out).
+    let es : List Entry = entries (length out) tape in
     let all : Agreement h ts (entries (length out) tape) = agreement h ts good (entries (length out) tape) in
-    rw (run-does plain h ts empty tape out sound-p l, run-does slip h ts empty tape out sound-s l)
+    rw (run-does plain h ts empty tape out sound-p l, run-does slip h ts empty tape out′ sound-s (l ∙ ap (λ (n : ℕ). 8 * n) long), sym long)
     (record {
-      answers = steps-answer plain h ts empty (entries (length out) tape) ∙ sym (steps-answer slip h ts empty (entries (length out) tape));
-      verdicts = all .verdicts;
+      answers = steps-answer plain h ts empty es ∙ sym (steps-answer slip h ts empty es);
+      verdicts = λ z. all .verdicts;
       books = all .books;
     }))
     (λ (l : length tape ≡ 8 * length out → ⊥).
-    rw (run-short plain h ts empty tape out sound-p l, run-short slip h ts empty tape out sound-s l)
-    (record { answers = refl; verdicts = refl; books = agreement h ts good [] .books }))
+    rw (run-short plain h ts empty tape out sound-p l, run-short slip h ts empty tape out′ sound-s (λ z. l (z ∙ ap (λ (n : ℕ). 8 * n) (sym long))))
+    (record { answers = refl; verdicts = λ z. absurd (omega arith); books = agreement h ts good [] .books }))
     (same (length tape) (8 * length out))

@@ -137,9 +137,3 @@ pub fn book_words(h: Hall) -> usize
 {
     36 * records(h)
 }
-
-// The hall in use, `mainHall`.
-pub const MAIN: Hall = Hall {
-    customers: 16,
-    benches: 8,
-};

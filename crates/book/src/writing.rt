@@ -113,5 +113,5 @@ pub fn make_empty_of(h: Hall, book: &mut [u32]) -> u8
 pub fn make_empty(book: &mut [u32]) -> u8
     ensures { λ r. ⌜ Gives (makeEmpty mainHall (now (book .entry))) r (now (book .exit)) ⌝ }
 {
-    make_empty_of(super::MAIN, book)
+    make_empty_of(rules::MAIN, book)
 }

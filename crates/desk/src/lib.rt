@@ -138,11 +138,11 @@ pub fn run_of(
 pub fn step(form: Form, tokens: &[u32], book: &mut [u32], e: Entry) -> u8
     ensures { λ r. ⌜ Gives (step (formOf form) mainHall (now (tokens .entry)) (now (book .entry)) e) r (now (book .exit)) ⌝ }
 {
-    step_of(form, book::MAIN, tokens, book, e)
+    step_of(form, rules::MAIN, tokens, book, e)
 }
 
 pub fn run(form: Form, tokens: &[u32], book: &mut [u32], tape: &[u8], verdicts: &mut [u8]) -> u8
     ensures { λ r. ⌜ RunGives (run (formOf form) mainHall (now (tokens .entry)) (now (book .entry)) (now (tape .entry)) (now (verdicts .entry))) r (now (book .exit)) (now (verdicts .exit)) ⌝ }
 {
-    run_of(form, book::MAIN, tokens, book, tape, verdicts)
+    run_of(form, rules::MAIN, tokens, book, tape, verdicts)
 }

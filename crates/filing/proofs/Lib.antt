@@ -1,3 +1,4 @@
 pub mod Filing
 pub mod Lists
+pub mod Read
 pub mod Determined

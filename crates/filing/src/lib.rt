@@ -73,13 +73,13 @@ pub fn read_book_of(h: Hall, from: &[u8], out: &mut [u32]) -> u8
 pub fn write_book(plain: &[u32], out: &mut [u8]) -> u8
     ensures { λ r. ⌜ Gives (writeBook mainHall (now (plain .entry)) (now (out .entry))) r (now (out .exit)) ⌝ }
 {
-    write_book_of(book::MAIN, plain, out)
+    write_book_of(rules::MAIN, plain, out)
 }
 
 pub fn read_book(from: &[u8], out: &mut [u32]) -> u8
     ensures { λ r. ⌜ Gives (readBook mainHall (now (from .entry)) (now (out .entry))) r (now (out .exit)) ⌝ }
 {
-    read_book_of(book::MAIN, from, out)
+    read_book_of(rules::MAIN, from, out)
 }
 
 // A token list, by way of a scratch as long as the list: it is judged there, since a refusal leaves the lent cells.

@@ -190,7 +190,7 @@ pub extern "C" fn gs_read(tape: &[u8], at: usize, fields: &mut [u32]) -> u8
         return 16;
     }
     let cursor = Cursor { at: at };
-    let reading = cursor.read(book::MAIN, tape);
+    let reading = cursor.read(tape);
     let got = reading.got;
     put_fields(fields, entry_in(got));
     number_of(got)
@@ -201,7 +201,7 @@ pub extern "C" fn gs_read_next(tape: &[u8], at: usize) -> usize
     ensures { λ r. ⌜ r ≡ readAt mainHall (now (tape .entry)) at .next ⌝ }
 {
     let cursor = Cursor { at: at };
-    let reading = cursor.read(book::MAIN, tape);
+    let reading = cursor.read(tape);
     reading.next.at
 }
 
@@ -216,5 +216,5 @@ pub extern "C" fn gs_write(
 ) -> u8
     ensures { λ r. ⌜ Gives (writeEntry mainHall (entryFrom kind bench customer zero amount) (now (part .entry))) r (now (part .exit)) ⌝ }
 {
-    tape::write(book::MAIN, entry(kind, bench, customer, zero, amount), part)
+    tape::write(entry(kind, bench, customer, zero, amount), part)
 }

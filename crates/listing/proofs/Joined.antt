@@ -11,7 +11,7 @@ use Rattle.rules.specs.Tape.{entries}
 use Rattle.rules.specs.Form.{Form}
 use Rattle.rules.specs.Listing.{stepLine, stepLines, cutLine}
 use Rattle.rules.specs.Verdicts.{step, Ran, steps}
-use Rattle.rules.specs.Walk.{recordLines, partRan, partLines}
+use Rattle.listing.specs.Parts.{recordLines, partRan, partLines}
 use Rattle.rules.proofs.Running.{steps-joined, entries-joined}
 use Rattle.keeps.proofs.Keeps.{Kept}
 use Rattle.desk.specs.Known.{Known}

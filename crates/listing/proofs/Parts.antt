@@ -13,7 +13,7 @@ use Rattle.rules.specs.Tape.{entries}
 use Rattle.rules.specs.Form.{Form}
 use Rattle.rules.specs.Listing.{stepLines, cutLine}
 use Rattle.rules.specs.Verdicts.{steps, RunGives}
-use Rattle.rules.specs.Walk.{recordLines, partRan, partLines}
+use Rattle.listing.specs.Parts.{recordLines, partRan, partLines}
 use Rattle.rules.proofs.Running.{entries-joined}
 use Rattle.listing.specs.Written.{written}
 use Rattle.listing.proofs.text.Writing.{Wrote, goes-on}

@@ -5,9 +5,9 @@ ghost use lib.ListN.{length};
 ghost use Rattle.rules.specs.Tape.{entries};
 ghost use Rattle.rules.specs.Listing.{stepLines};
 ghost use Rattle.rules.specs.Verdicts.{steps};
-ghost use Rattle.rules.specs.Walk.{recordLines, partRan, partLines};
 ghost use Rattle.book.specs.Forms.{formOf};
 ghost use Rattle.listing.specs.Written.{written};
+ghost use Rattle.listing.specs.Parts.{recordLines, partRan, partLines};
 ghost use Rattle.desk.specs.Known.{Known};
 
 pub mod accounts;

@@ -1,71 +1,64 @@
--- Demand 3, of the running code: two lent books made empty, then run over the same tape, the one as a plain book, the other
--- as a slip book. From what the functions `make_empty` and `run` promise, and from the agreement of the definitions.
-use mathlib.Core.Path.{_≡_, sym, _∙_}
-use Rattle.rules.specs.Lists.{ℕ, true, List}
+-- Demand 3, of the running code: two lent books made empty, then worked on alike, the one as a plain book, the other as a slip
+-- book; over a whole tape at once, and step by step. From what the functions promise, and from the agreement of the definitions.
+use mathlib.Core.Path.{_≡_, refl, sym, ap, _∙_}
+use Rattle.rules.specs.Lists.{ℕ, true, List, _∷_, length}
 use Rattle.rules.specs.Hall.{mainHall}
+use Rattle.rules.specs.declared.Entry.{Entry}
+use Rattle.rules.specs.Answers.{Gives}
 use Rattle.rules.specs.Bytes.{makeEmpty}
 use Rattle.rules.specs.Sound.{goodList, emptyBook}
-use Rattle.rules.specs.Form.{plain}
-use Rattle.rules.specs.Slips.{slip}
-use Rattle.rules.specs.Verdicts.{RunGives, run}
+use Rattle.rules.specs.Agree.{Agree}
+use Rattle.rules.specs.Verdicts.{step, steps, RunGives, run}
 use Rattle.rules.proofs.Answering.{answer-granted}
 use Rattle.book.specs.Forms.{formOf}
 use Rattle.book.specs.declared.forms.Form.{Form}
 use Rattle.book.specs.declared.forms.Form.the-variants.{Plain, Slip}
-use Rattle.agree.proofs.Agree.{Agree}
-use Rattle.agree.proofs.Agreement.{run-agreement}
-use Rattle.book.proofs.writing.make_empty.Reads as make-empty
-use Rattle.desk.proofs.run.Reads as desk-run
+use Rattle.agree.proofs.Agreement.{RunAgreement, run-agreement, Agreement, agreement}
+use Rattle.outcomes.specs.Calls.{Emptied, RunCall, StepCall, StepCalls, done, more}
 
--- a call of `make_empty` that answered 0 and left the book b
-pub record Emptied (b : List ℕ) : Type 1 where
-  pub lifetimes : _
-  pub args : _
-  pub result : _
-  pub exit : _
-  pub promised : make-empty.Learnt lifetimes args result exit
-  pub granted : result ≡ 0
-  pub left : exit .0 .now ≡ b
-
--- a call of `run` in the form f, over these values
-pub record Called (f : Form) (ts b tape out : List ℕ) : Type 1 where
-  pub lifetimes : _
-  pub args : _
-  pub result : _
-  pub exit : _
-  pub promised : desk-run.Learnt lifetimes args result exit
-  pub form : args .0 ≡ f
-  pub list : args .1 .0 .now ≡ ts
-  pub book : args .1 .1 .0 .now ≡ b
-  pub tape-lent : args .1 .1 .1 .0 .now ≡ tape
-  pub buffer : args .1 .1 .1 .1 .0 .now ≡ out
-
-abbrev pub bookAfter : {f : Form} {ts b tape out : List ℕ} → Called f ts b tape out → List ℕ
-bookAfter c = c .exit .1 .1 .0 .now
-
-abbrev pub verdictsAfter : {f : Form} {ts b tape out : List ℕ} → Called f ts b tape out → List ℕ
-verdictsAfter c = c .exit .1 .1 .1 .1 .0 .now
-
-emptied : (b : List ℕ) → Emptied b → b ≡ emptyBook mainHall
+pub emptied : (b : List ℕ) → Emptied b → b ≡ emptyBook mainHall
 unfolding makeEmpty
-emptied b e = sym (e .left) ∙ e .promised .cells ∙ answer-granted _ _ _ (sym (e .promised .number) ∙ e .granted)
+emptied b e = sym (e .book-after) ∙ e .learnt .cells ∙ answer-granted _ _ _ (sym (e .learnt .number) ∙ e .granted)
 
--- a run over values is the run over equal ones
-run-of-equals : (f f′ : Form) (ts ts′ b b′ tape tape′ out out′ : List ℕ) (n : ℕ) (c v : List ℕ)
-    → f ≡ f′ → ts ≡ ts′ → b ≡ b′ → tape ≡ tape′ → out ≡ out′
-    → RunGives (run (formOf f) mainHall ts b tape out) n c v → RunGives (run (formOf f′) mainHall ts′ b′ tape′ out′) n c v
-run-of-equals f f′ ts ts′ b b′ tape tape′ out out′ n c v p q r s t g = rw (sym p, sym q, sym r, sym s, sym t) g
+-- ---- a run
+ran : (f : Form) (ts b tape out : List ℕ) (n : ℕ) (b′ out′ : List ℕ) → Emptied b → RunCall f ts b tape out n b′ out′
+    → RunGives (run (formOf f) mainHall ts (emptyBook mainHall) tape out) n b′ out′
+ran f ts b tape out n b′ out′ e c =
+    rw (sym (c .form), sym (c .list), sym (emptied b e), sym (c .book), sym (c .tape-lent), sym (c .buffer), sym (c .answered), sym (c .book-after), sym (c .buffer-after)) (c .learnt)
 
-from-empty : (f : Form) (ts b tape out : List ℕ) → Emptied b → (c : Called f ts b tape out)
-    → RunGives (run (formOf f) mainHall ts (emptyBook mainHall) tape out) (c .result) (bookAfter c) (verdictsAfter c)
-from-empty f ts b tape out e c =
-    run-of-equals _ f _ ts _ (emptyBook mainHall) _ tape _ out _ _ _ (c .form) (c .list) (c .book ∙ emptied b e) (c .tape-lent) (c .buffer) (c .promised)
+-- the same tape, and verdict buffers of one length, whatever they held before: the runs answer the same; where they are granted
+-- the verdicts are the same; the books agree
+pub demand-3 : (ts tape p out s out′ : List ℕ) (n m : ℕ) (p′ v s′ w : List ℕ) → goodList ts ≡ true → length out ≡ length out′
+    → Emptied p → Emptied s → RunCall Plain ts p tape out n p′ v → RunCall Slip ts s tape out′ m s′ w
+    → (n ≡ m) × (n ≡ 0 → v ≡ w) × Agree mainHall ts p′ s′
+demand-3 ts tape p out s out′ n m p′ v s′ w good long ep es x y =
+    let both : RunAgreement mainHall ts _ _ = run-agreement mainHall ts good tape out out′ long in
+    let gx = ran Plain ts p tape out n p′ v ep x in
+    let gy = ran Slip ts s tape out′ m s′ w es y in (
+      gx .answer ∙ both .answers ∙ sym (gy .answer),
+      λ z. gx .verdicts ∙ both .verdicts (sym (gx .answer) ∙ z) ∙ sym (gy .verdicts),
+      rw (gx .book, gy .book) (both .books),
+    )
 
-pub demand-3 : (ts : List ℕ) → goodList ts ≡ true → (tape out p s : List ℕ) → Emptied p → Emptied s
-    → (x : Called Plain ts p tape out) (y : Called Slip ts s tape out)
-    → (x .result ≡ y .result) × (verdictsAfter x ≡ verdictsAfter y) × Agree mainHall ts (bookAfter x) (bookAfter y)
-demand-3 ts good tape out p s ep es x y =
-    let both = run-agreement mainHall ts good tape out in
-    let gx = from-empty Plain ts p tape out ep x in
-    let gy = from-empty Slip ts s tape out es y in
-    (gx .answer ∙ both .answers ∙ sym (gy .answer), gx .verdicts ∙ both .verdicts ∙ sym (gy .verdicts), rw (gx .book, gy .book) (both .books))
+-- ---- steps, one after the other
+stepped : {f : Form} {ts b b′ : List ℕ} {e : Entry} {n : ℕ} → StepCall f ts b e n b′ → Gives (step (formOf f) mainHall ts b e) n b′
+stepped c =
+    rw (sym (c .form), sym (c .list), sym (c .book), sym (c .entry), sym (c .answered), sym (c .book-after)) (c .learnt)
+
+all-stepped : {f : Form} {ts b b′ : List ℕ} {es : List Entry} {ns : List ℕ} → StepCalls f ts b es ns b′
+    → RunGives (steps (formOf f) mainHall ts b es) 0 b′ ns
+unfolding steps
+all-stepped done = record { answer = refl; verdicts = refl; book = refl }
+all-stepped (more {n = n} c later) =
+    let one = stepped c in
+    let rest = all-stepped later in
+    rw (sym (one .cells), sym (one .number)) (record { answer = refl; verdicts = ap (λ (vs : List ℕ). n ∷ vs) (rest .verdicts); book = rest .book })
+
+-- the same records, any number of them: the verdicts are the same, one by one, and the books agree
+pub demand-3-steps : (ts p s : List ℕ) (es : List Entry) (ns ms p′ s′ : List ℕ) → goodList ts ≡ true → Emptied p → Emptied s
+    → StepCalls Plain ts p es ns p′ → StepCalls Slip ts s es ms s′ → (ns ≡ ms) × Agree mainHall ts p′ s′
+demand-3-steps ts p s es ns ms p′ s′ good ep es′ x y =
+    let both : Agreement mainHall ts es = agreement mainHall ts good es in
+    let gx = rw (emptied p ep) at (all-stepped x) in
+    let gy = rw (emptied s es′) at (all-stepped y) in
+    (gx .verdicts ∙ both .verdicts ∙ sym (gy .verdicts), rw (gx .book, gy .book) (both .books))

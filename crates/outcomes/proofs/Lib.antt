@@ -1,2 +1,6 @@
--- What the promises of the public functions come to: two of them together meet demand 3.
+-- What the promises of the public functions come to: demand 2 there and back, demand 3, the walk.
+pub mod Back
+pub mod Records
 pub mod Demand3
+pub mod Walked
+pub mod Determined

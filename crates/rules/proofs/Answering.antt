@@ -1,10 +1,11 @@
 -- Answers: refused, the lent cells are as before; and a number given is one of the table's.
 use mathlib.Core.Path.{_≡_, refl, sym, _∙_}
-use Prim.Native.Nat.{_<_}
+use mathlib.Core.Logic.{⊎-elim}
+use Prim.Native.Nat.{_≤_, _<_}
 use native.Mathlib.Omega.{arith}
 use borrow.Author.Tests.{eq-eqb, ne-eqb, ltb-true, lt-ltb}
 use Rattle.rules.specs.Lists.{ℕ, _+_, Bool, true, false, cond, _&&_, ltb, eqb, List, [], _∷_, _++_, occ, isIn}
-use Rattle.rules.proofs.Tests.{parts, and-right}
+use Rattle.rules.proofs.Tests.{parts, and-right, same}
 use Rattle.rules.specs.Answers.{Rule, _⇐_, first, answer, Gives}
 
 module _ (rules : List Rule) (new old : List ℕ) where
@@ -78,3 +79,53 @@ unfolding first
 first-refuses [] more r e n = absurd (n e)
 first-refuses ((k ⇐ true) ∷ rules) more r e n = e
 first-refuses ((k ⇐ false) ∷ rules) more r e n = first-refuses rules more r e n
+
+-- ---- the lowest number
+-- v is the lowest number whose test holds, and 0 where none does
+pub record Lowest (rules : List Rule) (v : ℕ) : Type 0 where
+  pub applies : (n : ℕ) → testOf n rules ≡ true → (testOf v rules ≡ true) × (v ≤ n)
+  pub granted : ((n : ℕ) → testOf n rules ≡ false) → v ≡ 0
+
+-- the numbers rise, from above a on
+abbrev pub rising : ℕ → List Rule → Bool
+rising a [] = true
+rising a ((n ⇐ test) ∷ rules) = ltb a n && rising n rules
+
+never : {P : Type 0} (t : Bool) → t ≡ true → t ≡ false → P
+never t p q = absurd (let z : _≡_ {A = ℕ} 0 1 = cc in omega arith)
+
+at-least : (m : ℕ) (test : Bool) (rules : List Rule) (n : ℕ) → (testOf n rules ≡ true → m < n) → testOf n ((m ⇐ test) ∷ rules) ≡ true → m ≤ n
+at-least m test rules n later e =
+    ⊎-elim (λ (z : n ≡ m). omega arith) (λ (z : n ≡ m → ⊥). omega (arith, later (rw (ne-eqb n m z) at e))) (same n m)
+
+above : (a : ℕ) (rules : List Rule) → rising a rules ≡ true → (n : ℕ) → testOf n rules ≡ true → a < n
+above a [] w n e = never false e refl
+above a ((m ⇐ test) ∷ rules) w n e =
+    let l : a < m = search parts in
+    omega (arith, at-least m test rules n (above m rules (and-right (ltb a m) (rising m rules) w) n) e)
+
+-- a line that doesn't apply changes nothing for the numbers of the others
+skipped : (m : ℕ) (rules : List Rule) → rising m rules ≡ true → (n : ℕ) → testOf n ((m ⇐ false) ∷ rules) ≡ testOf n rules
+skipped m rules w n = go (testOf n rules) refl
+  where
+    go : (t : Bool) → testOf n rules ≡ t → testOf n ((m ⇐ false) ∷ rules) ≡ testOf n rules
+    go true e = let l : m < n = above m rules w n e in rw (ne-eqb n m (λ z. omega arith))
+    go false e = none-of (eqb n m) (testOf n rules) e ∙ sym e
+
+pub first-lowest : (a : ℕ) (rules : List Rule) → rising a rules ≡ true → Lowest rules (first rules)
+unfolding first
+first-lowest a [] w = record { applies = λ n e. never false e refl; granted = λ none. refl }
+first-lowest a ((m ⇐ true) ∷ rules) w =
+    let holds : testOf m ((m ⇐ true) ∷ rules) ≡ true = rw (eq-eqb m m refl) in
+    record {
+      applies = λ n e. (holds, at-least m true rules n (above m rules (and-right (ltb a m) (rising m rules) w) n) e);
+      granted = λ none. never _ holds (none m);
+    }
+first-lowest a ((m ⇐ false) ∷ rules) w =
+    let later : rising m rules ≡ true = and-right (ltb a m) (rising m rules) w in
+    let rest : Lowest rules (first rules) = first-lowest m rules later in
+    record {
+      applies = λ n e.
+          let p = rest .applies n (sym (skipped m rules later n) ∙ e) in (skipped m rules later (first rules) ∙ p .0, p .1);
+      granted = λ none. rest .granted (λ n. sym (skipped m rules later n) ∙ none n);
+    }

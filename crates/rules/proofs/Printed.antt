@@ -3,9 +3,10 @@ use mathlib.Core.Path.{_≡_, refl}
 use Rattle.rules.specs.Lists.{ℕ, List, [], _∷_, _++_}
 use Rattle.rules.specs.Hall.{Hall}
 use Rattle.rules.specs.Records.{made}
+use Rattle.rules.specs.Form.{Form}
 use Rattle.rules.specs.Text.{decimal}
 use Rattle.rules.specs.Listing.{stepLine, cutLine, accounts}
-use Rattle.rules.specs.Walk.{walk}
+use Rattle.rules.specs.Walk.{refusedLine, walk}
 use Rattle.rules.proofs.Unfolded.{all}
 
 -- "0", "90210", and the largest of 64 bits
@@ -41,8 +42,8 @@ unfolding all small books
 accounts-printed = refl
 
 -- "refused 1" alone, whatever the tape: a byte left over, a token twice
-refused-printed : (tape : List ℕ)
-    → (walk small (21 ∷ []) tape ≡ 114 ∷ 101 ∷ 102 ∷ 117 ∷ 115 ∷ 101 ∷ 100 ∷ 32 ∷ 49 ∷ 10 ∷ [])
-    × (walk small (21 ∷ 0 ∷ 0 ∷ 0 ∷ 21 ∷ 0 ∷ 0 ∷ 0 ∷ []) tape ≡ 114 ∷ 101 ∷ 102 ∷ 117 ∷ 115 ∷ 101 ∷ 100 ∷ 32 ∷ 49 ∷ 10 ∷ [])
+refused-printed : (f : Form) (tape : List ℕ)
+    → (walk f small (21 ∷ []) tape ≡ refusedLine)
+    × (walk f small (21 ∷ 0 ∷ 0 ∷ 0 ∷ 21 ∷ 0 ∷ 0 ∷ 0 ∷ []) tape ≡ refusedLine)
 unfolding all
-refused-printed tape = (refl, refl)
+refused-printed f tape = (refl, refl)

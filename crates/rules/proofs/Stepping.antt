@@ -15,7 +15,7 @@ use Rattle.rules.specs.Form.{Form, plain}
 use Rattle.rules.specs.Steps.{theCarnet, theView, theLine, dealing, updating, soldLine, effect}
 use Rattle.rules.specs.Verdicts.{table, verdict, step}
 use Rattle.rules.proofs.Tests.{same}
-use Rattle.rules.proofs.Answering.{answer-granted, answer-refused, numbers, first-listed}
+use Rattle.rules.proofs.Answering.{answer-granted, answer-refused, Lowest, first-lowest, numbers, first-listed}
 
 module _ (f : Form) (h : Hall) (ts b : List ℕ) (e : Entry) where
   pub step-granted : step f h ts b e .number ≡ 0 → step f h ts b e .cells ≡ effect f h ts b e
@@ -38,7 +38,12 @@ module _ (f : Form) (h : Hall) (ts b : List ℕ) (e : Entry) where
       (λ (z : step f h ts b e .number ≡ 0 → ⊥). subst P (sym (step-refused z)) stays)
       (same (step f h ts b e .number) 0)
 
-  -- the verdict is a number of the table, or 0; and the table's numbers rise, so that the first that applies is the lowest
+  -- the verdict is the lowest number of the table whose test holds, and 0 where none does
+  pub verdict-lowest : Lowest (table f h ts b e) (verdict f h ts b e)
+  unfolding verdict table entryRules
+  verdict-lowest = first-lowest 0 (table f h ts b e) refl
+
+  -- it is a number of the table, or 0; and these are the table's numbers
   pub verdict-listed : isIn (verdict f h ts b e) (numbers (table f h ts b e)) ≡ true
   unfolding verdict
   verdict-listed = first-listed (table f h ts b e)

@@ -10,8 +10,8 @@ use Rattle.rules.specs.Verdicts.{table, verdict, step, steps, run}
 use Rattle.rules.specs.Slips.{openSlip, openSlips, slipTokens, openedLine, openLines, openBook, slipSum, slipsGood, slipLineGood, isRun, slipBy, slipSound, slipOf, slipPairs}
 use Rattle.rules.specs.Text.{digits, spaced}
 use Rattle.rules.specs.Listing.{stepLine, stepLines, cutLine, partyLine, customerLine, benchLine, accounts}
-use Rattle.rules.specs.Walk.{listGood, recordLines, partLines, walk}
+use Rattle.rules.specs.Walk.{listGood, walk}
 
 unfoldable pub all : Bool
-unfolding range every occ allDifferent sameList without placeOf sumOf joined first answer inUse amount count sales held filled made withWord blockAt putBlock cut goodList fits shaped deskGood bare lineGood placeGood recordGood partiesGood onceIn moneyGood soundBy sound emptyBook wordOf toWords entryOf wellFormed inHall entryRules entries putAll joining dealing updating stocking soldLine selling authenticating settling clearing changes effect table verdict step steps run openSlip openSlips slipTokens openedLine openLines openBook slipSum slipsGood slipLineGood isRun slipBy slipSound slipOf slipPairs digits spaced stepLine stepLines cutLine partyLine customerLine benchLine accounts listGood recordLines partLines walk
+unfolding range every occ allDifferent sameList without placeOf sumOf joined first answer inUse amount count sales held filled made withWord blockAt putBlock cut goodList fits shaped deskGood bare lineGood placeGood recordGood partiesGood onceIn moneyGood soundBy sound emptyBook wordOf toWords entryOf wellFormed inHall entryRules entries putAll joining dealing updating stocking soldLine selling authenticating settling clearing changes effect table verdict step steps run openSlip openSlips slipTokens openedLine openLines openBook slipSum slipsGood slipLineGood isRun slipBy slipSound slipOf slipPairs digits spaced stepLine stepLines cutLine partyLine customerLine benchLine accounts listGood walk
 all = true

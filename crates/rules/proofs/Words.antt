@@ -1,15 +1,11 @@
--- Words to bytes to words, and bytes to words to bytes, of numbers and of whole books.
+-- Words to bytes to words, and bytes to words to bytes, of numbers and of lists of them.
 use mathlib.Core.Path.{_≡_, refl, sym, ap, _∙_}
 use Prim.Native.Nat.{_≤_, _<_}
 use native.Mathlib.Omega.{arith}
 use lib.ListN.{length-drop}
 use lib.Seq.{getD-drop}
-use borrow.Author.Tests.{eq-eqb, eqb-true}
-use Rattle.rules.specs.Lists.{ℕ, zero, suc, _+_, _*_, _/_, _%_, true, List, [], _∷_, _++_, length, drop, getD}
-use Rattle.rules.specs.Hall.{Hall}
-use Rattle.rules.specs.Answers.{first, Answer, answer}
-use Rattle.rules.specs.Sound.{fits}
-use Rattle.rules.specs.Bytes.{bytesOf, wordOf, toBytes, toWords, lengths, writeBook, readBook}
+use Rattle.rules.specs.Lists.{ℕ, zero, suc, _+_, _*_, _/_, _%_, List, [], _∷_, _++_, length, drop, getD}
+use Rattle.rules.specs.Bytes.{bytesOf, wordOf, toBytes, toWords}
 
 -- each number of the list is below n
 abbrev pub Below : ℕ → List ℕ → Type 0
@@ -81,38 +77,3 @@ pub length-toWords : (n : ℕ) (bs : List ℕ) → length (toWords n bs) ≡ n
 unfolding toWords
 length-toWords zero bs = refl
 length-toWords (suc n) bs = ap suc (length-toWords n (drop 4 bs))
-
--- ---- a book of right length
-module _ (h : Hall) (b bs : List ℕ) (right : fits h b ≡ true) (whole : length bs ≡ 4 * length b) where
-  right-lengths : (new old : List ℕ) → answer (lengths h b bs) new old ≡ record { number = 0; cells = new }
-  unfolding answer first
-  right-lengths new old = rw (right, eq-eqb (length bs) (4 * length b) whole)
-
-  write-book : writeBook h b bs ≡ record { number = 0; cells = toBytes b }
-  unfolding writeBook
-  write-book = right-lengths (toBytes b) bs
-
-  read-book : readBook h bs b ≡ record { number = 0; cells = toWords (length b) bs }
-  unfolding readBook
-  read-book = right-lengths (toWords (length b) bs) b
-
--- written out and read back it is the same
-pub book-back : (h : Hall) (b b′ bs : List ℕ) → fits h b ≡ true → fits h b′ ≡ true → length bs ≡ 4 * length b → Below wordTop b
-    → readBook h (writeBook h b bs .cells) b′ ≡ record { number = 0; cells = b }
-unfolding fits
-book-back h b b′ bs right right′ whole low =
-    let same : length b′ ≡ length b = eqb-true (length b′) _ right′ ∙ sym (eqb-true (length b) _ right) in
-    ap (λ (a : Answer). readBook h (a .cells) b′) (write-book h b bs right whole)
-    ∙ read-book h b′ (toBytes b) right′ (length-toBytes b ∙ ap (λ (n : ℕ). 4 * n) (sym same))
-    ∙ ap (λ (x : List ℕ). record { number = 0; cells = x })
-    (ap (λ (n : ℕ). toWords n (toBytes b)) same ∙ words-back b low)
-
--- read and written back it gives the same bytes
-pub book-bytes-back : (h : Hall) (b bs bs′ : List ℕ) → fits h b ≡ true → length bs ≡ 4 * length b → length bs′ ≡ 4 * length b → Below byteTop bs
-    → writeBook h (readBook h bs b .cells) bs′ ≡ record { number = 0; cells = bs }
-unfolding fits
-book-bytes-back h b bs bs′ right whole whole′ low =
-    let same : length (toWords (length b) bs) ≡ length b = length-toWords (length b) bs in
-    ap (λ (a : Answer). writeBook h (a .cells) bs′) (read-book h b bs right whole)
-    ∙ write-book h (toWords (length b) bs) bs′ (rw same right) (whole′ ∙ ap (λ (n : ℕ). 4 * n) (sym same))
-    ∙ ap (λ (x : List ℕ). record { number = 0; cells = x }) (all-bytes-back (length b) bs whole low)

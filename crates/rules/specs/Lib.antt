@@ -10,6 +10,7 @@ pub mod Form
 pub mod Steps
 pub mod Verdicts
 pub mod Slips
+pub mod Agree
 pub mod Text
 pub mod Listing
 pub mod Walk

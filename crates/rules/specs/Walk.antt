@@ -1,12 +1,12 @@
--- The walk: a list on file and a tape, from an empty plain book to the listing.
+-- The walk: a list on file and a tape, from an empty book to the listing.
 use Rattle.rules.specs.Lists.{ℕ, _/_, _%_, Bool, cond, not, _&&_, leb, eqb, List, [], _∷_, _++_, length, drop}
 use Rattle.rules.specs.Hall.{Hall}
-use Rattle.rules.specs.Answers.{Rule, _⇐_, Answer, answer}
+use Rattle.rules.specs.Answers.{_⇐_, Answer, answer}
 use Rattle.rules.specs.Sound.{goodList, emptyBook}
 use Rattle.rules.specs.Bytes.{toWords}
-use Rattle.rules.specs.Tape.{Entry, entries}
-use Rattle.rules.specs.Form.{Form, plain}
-use Rattle.rules.specs.Verdicts.{Ran, steps}
+use Rattle.rules.specs.Tape.{entries}
+use Rattle.rules.specs.Form.{Form}
+use Rattle.rules.specs.Verdicts.{steps}
 use Rattle.rules.specs.Listing.{stepLines, cutLine, accounts}
 
 -- ---- the list on file: four bytes for each token
@@ -22,24 +22,15 @@ unfoldable pub readList : List ℕ → List ℕ → Answer
 readList bs out =
     answer ((1 ⇐ not (listGood bs && leb (length bs / 4) (length out))) ∷ []) (listOf bs ++ drop (length bs / 4) out) out
 
--- ---- a part of the tape, walked from a book on; its first step has a place in the whole tape
-module _ (f : Form) (h : Hall) (ts b : List ℕ) where
-  -- the lines of some records
-  unfoldable pub recordLines : ℕ → List Entry → List ℕ
-  recordLines place es = stepLines place es (steps f h ts b es .verdicts)
+-- "refused 1"
+abbrev pub refusedLine : List ℕ
+refusedLine = 114 ∷ 101 ∷ 102 ∷ 117 ∷ 115 ∷ 101 ∷ 100 ∷ 32 ∷ 49 ∷ 10 ∷ []
 
-  abbrev pub partRan : List ℕ → Ran
-  partRan part = steps f h ts b (entries (length part / 8) part)
-
-  -- the whole records' lines, and "cut" where bytes are left over
-  unfoldable pub partLines : ℕ → List ℕ → List ℕ
-  partLines place part = recordLines place (entries (length part / 8) part) ++ cutLine (length part)
-
--- ---- all that is printed; "refused 1" for a list that isn't good
-unfoldable pub walk : Hall → List ℕ → List ℕ → List ℕ
-walk h list tape =
-    let ts = listOf list in
-    let b = emptyBook h in
+-- ---- all that is printed, in the plain book by the program: a line for each step, "cut" where bytes are left over, and the
+-- accounts; "refused 1" alone for a list that isn't good
+unfoldable pub walk : Form → Hall → List ℕ → List ℕ → List ℕ
+walk f h list tape =
+    let es = entries (length tape / 8) tape in
+    let ran = steps f h (listOf list) (emptyBook h) es in
     cond (listGood list)
-    (partLines plain h ts b 0 tape ++ accounts h (partRan plain h ts b tape .book))
-    (114 ∷ 101 ∷ 102 ∷ 117 ∷ 115 ∷ 101 ∷ 100 ∷ 32 ∷ 49 ∷ 10 ∷ [])
+    (stepLines 0 es (ran .verdicts) ++ cutLine (length tape) ++ accounts h (ran .book)) refusedLine

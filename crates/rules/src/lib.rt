@@ -1,10 +1,16 @@
-// The two kinds of value that the definitions of specs/ and the code have in common.
+// What the definitions of specs/ and the code have in common: two kinds of value, and the hall in use.
 
 // A hall, by the number of its customers and of its benches.
 pub struct Hall {
     pub customers: usize,
     pub benches: usize,
 }
+
+// The hall in use, `mainHall`.
+pub const MAIN: Hall = Hall {
+    customers: 16,
+    benches: 8,
+};
 
 // A record of the tape, all five fields. `byte3` is zero in every record that isn't refused.
 pub struct Entry {

@@ -65,7 +65,7 @@ pub fn is_sound_of(h: Hall, list: &[u32], book: &[u32]) -> bool
 pub fn is_sound(list: &[u32], book: &[u32]) -> bool
     ensures { λ r. ⌜ r ≡ slipSound mainHall (now (list .entry)) (now (book .entry)) ⌝ }
 {
-    is_sound_of(book::MAIN, list, book)
+    is_sound_of(rules::MAIN, list, book)
 }
 
 // 1, and the plain book as it was, for an unsound slip book or a plain book of another length.
@@ -86,5 +86,5 @@ pub fn open_into_of(h: Hall, list: &[u32], slips: &[u32], plain: &mut [u32]) -> 
 pub fn open_into(list: &[u32], slips: &[u32], plain: &mut [u32]) -> u8
     ensures { λ r. ⌜ Gives (openInto mainHall (now (list .entry)) (now (slips .entry)) (now (plain .entry))) r (now (plain .exit)) ⌝ }
 {
-    open_into_of(book::MAIN, list, slips, plain)
+    open_into_of(rules::MAIN, list, slips, plain)
 }

@@ -137,5 +137,5 @@ pub fn is_sound_of(h: Hall, list: &[u32], book: &[u32]) -> bool
 pub fn is_sound(list: &[u32], book: &[u32]) -> bool
     ensures { λ r. ⌜ r ≡ sound mainHall (now (list .entry)) (now (book .entry)) ⌝ }
 {
-    is_sound_of(book::MAIN, list, book)
+    is_sound_of(rules::MAIN, list, book)
 }

@@ -4,6 +4,7 @@ use rules::Hall;
 ghost use mathlib.Core.Path.{_≡_};
 ghost use Prim.Native.Nat.{_+_, _≤_};
 ghost use Rattle.rules.specs.Lists.{_||_, not, leb, ltb, eqb, length, drop};
+ghost use Rattle.rules.specs.Hall.{mainHall};
 ghost use Rattle.rules.specs.Answers.{first, Gives};
 ghost use Rattle.rules.specs.Tape.{entryRules, entryOf, eightBytes, readAt, writeEntry};
 ghost use Rattle.tape.specs.Fields.{formed, placed, fieldRules};
@@ -148,7 +149,7 @@ pub fn entry_at(bytes: &[u8], at: usize) -> Entry
 
 impl Cursor {
     // The record at the cursor. A record that is refused is passed over, so that the one after it can be read.
-    pub fn read(self, h: Hall, tape: &[u8]) -> Reading
+    pub fn read_of(self, h: Hall, tape: &[u8]) -> Reading
         ensures { λ r. ⌜ r ≡ reading (readAt h (now (tape .entry)) (self .at)) ⌝ }
     {
         let at = self.at;
@@ -173,6 +174,13 @@ impl Cursor {
             next,
         }
     }
+
+    // In the hall in use.
+    pub fn read(self, tape: &[u8]) -> Reading
+        ensures { λ r. ⌜ r ≡ reading (readAt mainHall (now (tape .entry)) (self .at)) ⌝ }
+    {
+        self.read_of(rules::MAIN, tape)
+    }
 }
 
 fn put_entry(e: Entry, out: &mut [u8])
@@ -187,7 +195,7 @@ fn put_entry(e: Entry, out: &mut [u8])
 }
 
 // Writes the record, or answers why not: what reading would refuse comes before a part that isn't 8 bytes.
-pub fn write(h: Hall, e: Entry, out: &mut [u8]) -> u8
+pub fn write_of(h: Hall, e: Entry, out: &mut [u8]) -> u8
     ensures { λ r. ⌜ Gives (writeEntry h e (now (out .entry))) r (now (out .exit)) ⌝ }
 {
     let refused = judge(h, e);
@@ -200,4 +208,11 @@ pub fn write(h: Hall, e: Entry, out: &mut [u8]) -> u8
     }
     put_entry(e, out);
     0
+}
+
+// In the hall in use.
+pub fn write(e: Entry, out: &mut [u8]) -> u8
+    ensures { λ r. ⌜ Gives (writeEntry mainHall e (now (out .entry))) r (now (out .exit)) ⌝ }
+{
+    write_of(rules::MAIN, e, out)
 }

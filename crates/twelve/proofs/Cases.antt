@@ -1,17 +1,18 @@
--- The twelve steps of document 01's listing, from the tape's bytes, through both books: one statement, proved by computation.
+-- The twelve steps of document 01's listing, walked in both books: one statement, from the list's and the tape's bytes to the
+-- listing's, proved by computation.
 use mathlib.Core.Path.{_≡_, refl}
-use Rattle.rules.specs.Lists.{ℕ, List, [], _∷_, _++_, replicate, range}
+use Rattle.rules.specs.Lists.{ℕ, List, [], _∷_, range}
 use Rattle.rules.specs.Hall.{mainHall}
-use Rattle.rules.specs.Sound.{emptyBook}
-use Rattle.rules.specs.Form.{Form, plain}
-use Rattle.rules.specs.Verdicts.{Ran, run}
+use Rattle.rules.specs.Bytes.{bytesOf, toBytes}
+use Rattle.rules.specs.Form.{plain}
 use Rattle.rules.specs.Slips.{slip}
-use Rattle.rules.specs.Tape.{entries}
-use Rattle.rules.specs.Listing.{stepLines, accounts}
+use Rattle.rules.specs.Walk.{walk}
 use Rattle.rules.proofs.Unfolded.{all}
 
+-- the list on file, and the tape
 tokens : List ℕ
-tokens = range 21 12
+unfolding toBytes bytesOf range
+tokens = toBytes (range 21 12)
 
 tape : List ℕ
 tape =
@@ -28,13 +29,6 @@ tape =
     ∷ 4 ∷ 0 ∷ 3 ∷ 0 ∷ 1 ∷ 0 ∷ 0 ∷ 0
     ∷ 7 ∷ 1 ∷ 0 ∷ 0 ∷ 0 ∷ 0 ∷ 0 ∷ 0
     ∷ []
-
-twelveRan : Form → Ran
-twelveRan f = run f mainHall tokens (emptyBook mainHall) tape (replicate 12 0)
-
--- what a run shows: its answer, and the listing
-shown : Ran → ℕ × List ℕ
-shown ran = (ran .answer, stepLines 0 (entries 12 tape) (ran .verdicts) ++ accounts mainHall (ran .book))
 
 -- line by line, in bytes: 48 is the digit 0, 32 a space, 10 a line's end, 67 "C" and 77 "M"
 listing : List ℕ
@@ -55,6 +49,6 @@ listing =
     ∷ 77 ∷ 32 ∷ 49 ∷ 32 ∷ 50 ∷ 32 ∷ 49 ∷ 32 ∷ 48 ∷ 10
     ∷ []
 
-twelve : (shown (twelveRan plain) ≡ (0, listing)) × (shown (twelveRan slip) ≡ (0, listing))
-unfolding all tokens tape shown twelveRan listing
+twelve : (walk plain mainHall tokens tape ≡ listing) × (walk slip mainHall tokens tape ≡ listing)
+unfolding all tokens tape listing
 twelve = (refl, refl)

@@ -1,54 +1,73 @@
--- What the program goes by: a list that was read is good, and a book that was made empty is known to be sound; such a book has the hall's length.
+-- What the program goes by: how far it has come, from an empty book on, and that the book is then known to be sound.
 use mathlib.Core.Path.{_≡_, refl, sym, ap, _∙_}
+use Prim.Native.Nat.{_≤_}
 use native.Mathlib.Omega.{arith}
-use lib.Seq.{take-at}
-use Rattle.rules.specs.Lists.{ℕ, _/_, Bool, true, false, _&&_, leb, List, _++_, length, take, drop}
+use lib.ListN.{length-append}
+use lib.Seq.{length-take-le}
+use Rattle.rules.specs.Lists.{ℕ, _+_, _*_, _/_, _%_, true, List, [], _++_, length, take}
 use Rattle.rules.specs.Hall.{mainHall}
 use Rattle.rules.specs.Answers.{first, answer, Gives}
 use Rattle.rules.specs.Form.{plain}
-use Rattle.rules.specs.Sound.{goodList, fits, sound, emptyBook}
+use Rattle.rules.specs.Sound.{goodList, fits, emptyBook}
 use Rattle.rules.specs.Bytes.{makeEmpty}
-use Rattle.rules.specs.Walk.{listOf, listGood, readList}
-use Rattle.rules.proofs.Words.{length-toWords}
-use Rattle.rules.proofs.Tests.{parts}
+use Rattle.rules.specs.Verdicts.{steps}
+use Rattle.rules.specs.Tape.{entries}
+use Rattle.rules.specs.Walk.{readList}
 use Rattle.laws.proofs.Empty.{empty-sound}
 use Rattle.laws.proofs.Reflect.{sound-facts}
+use Rattle.keeps.proofs.Keeps.{plain-kept}
 use Rattle.desk.specs.Known.{Known}
+use Rattle.filing.proofs.Read.{list-good, taken-good, taken-is}
+use Rattle.listing.specs.Parts.{partRan}
+use Rattle.listing.proofs.Joined.{book-joined, still-known}
+use Rattle.io.specs.Counts.{Counts}
+use Rattle.walk.specs.Reached.{Reached}
 
-module _ (bs out : List ℕ) where
-  abbrev test : Bool
-  test = listGood bs && leb (length bs / 4) (length out)
+pub counts : (n : ℕ) (xs : List ℕ) → n ≤ length xs → Counts n xs
+counts n xs l = (l, sym (length-take-le n xs l))
 
-  passed : (t : Bool) → test ≡ t → readList bs out .number ≡ 0 → test ≡ true
-  unfolding readList answer first
-  passed true e z = e
-  passed false e z = absurd (let one : 1 ≡ 0 = rw e at z in omega (arith, one))
+-- n bytes were read, and the list in them was taken
+pub list-taken : (bs out : List ℕ) (n number : ℕ) (new : List ℕ) → n ≡ length bs → number ≡ 0 → Gives (readList bs out) number new
+    → goodList (take (n / 4) new) ≡ true
+list-taken bs out n number new size z read =
+    ap (λ (k : ℕ). goodList (take (k / 4) new)) size
+    ∙ ap goodList (taken-is bs out number new read z)
+    ∙ list-good bs (taken-good bs out number new read z)
 
-  laid : test ≡ true → readList bs out .cells ≡ listOf bs ++ drop (length bs / 4) out
-  unfolding readList answer first
-  laid e = rw e
+-- a book of the right length was made empty
+pub begins : (ts old new : List ℕ) → goodList ts ≡ true → length old ≡ 6372 → new ≡ makeEmpty mainHall old .cells → Reached ts new 0
+unfolding makeEmpty answer first fits steps entries
+begins ts old new good long is = record { list = good; tape = []; long = refl; book = is ∙ rw long }
 
-  good : listGood bs ≡ true → goodList (listOf bs) ≡ true
-  unfolding listGood
-  good e = search parts
+module _ (ts b : List ℕ) (bytes : ℕ) (so-far : Reached ts b bytes) where
+  pub known : Known plain mainHall ts b
+  known =
+      still-known plain plain-kept mainHall ts (emptyBook mainHall) (entries (length (so-far .tape) / 8) (so-far .tape)) b
+      (record { customers = omega arith; benches = omega arith; good = empty-sound mainHall ts (so-far .list) })
+      (so-far .book)
 
-  -- n bytes were read
-  pub list-good : (n number : ℕ) (new : List ℕ) → n ≡ length bs → number ≡ 0 → Gives (readList bs out) number new
-      → goodList (take (n / 4) new) ≡ true
-  list-good n number new size z is =
-      let e : test ≡ true = passed test refl (sym (is .number) ∙ z) in
-      let g : listGood bs ≡ true = search parts in
-      ap (λ (k : ℕ). goodList (take (k / 4) new)) size
-      ∙ ap (λ (xs : List ℕ). goodList (take (length bs / 4) xs)) (is .cells ∙ laid e)
-      ∙ ap goodList (take-at (listOf bs) (drop (length bs / 4) out) (length bs / 4) (length-toWords (length bs / 4) bs))
-      ∙ good g
+  pub book-long : length b ≡ 6372
+  book-long = sound-facts mainHall ts b (known .good) .0
 
--- the book, of the right length, was made empty
-pub empty-known : (ts old new : List ℕ) → goodList ts ≡ true → length old ≡ 6372 → new ≡ makeEmpty mainHall old .cells → Known plain mainHall ts new
-unfolding makeEmpty answer first fits
-empty-known ts old new g long is =
-    let e : new ≡ emptyBook mainHall = is ∙ rw long in
-    record { customers = omega arith; benches = omega arith; good = ap (sound mainHall ts) e ∙ empty-sound mainHall ts g }
+  -- another part, behind whole records
+  pub goes-on : (part b′ : List ℕ) (n : ℕ) → bytes % 8 ≡ 0 → n ≡ length part → b′ ≡ partRan plain mainHall ts b part .book → Reached ts b′ (bytes + n)
+  goes-on part b′ n whole size is =
+      let long : length (so-far .tape) % 8 ≡ 0 = ap (λ (k : ℕ). k % 8) (so-far .long) ∙ whole in
+      record {
+        list = so-far .list;
+        tape = so-far .tape ++ part;
+        long = simp length-append (omega (arith, so-far .long, size));
+        book =
+            is
+            ∙ ap (λ (x : List ℕ). partRan plain mainHall ts x part .book) (so-far .book)
+            ∙ sym (book-joined plain mainHall ts (emptyBook mainHall) 0 (so-far .tape) part long);
+      }
 
-pub known-long : (ts b : List ℕ) → Known plain mainHall ts b → length b ≡ 6372
-known-long ts b k = sound-facts mainHall ts b (k .good) .0
+-- a part of at most 1,024 records from a place on; a full one leads to the place behind it
+pub went : (ts b : List ℕ) (place n : ℕ) (part b′ : List ℕ) → Reached ts b (8 * place) → n ≡ length part → n ≤ 8192
+    → b′ ≡ partRan plain mainHall ts b part .book
+    → Reached ts b′ (8 * place + n) × (n ≤ 8192)
+went ts b place n part b′ so-far size few is = (goes-on ts b (8 * place) so-far part b′ n (omega arith) size is, few)
+
+pub further : (ts b : List ℕ) (place n : ℕ) → Reached ts b (8 * place + n) × (n ≤ 8192) → 8192 ≤ n → Reached ts b (8 * (place + 1024))
+further ts b place n r full = let e : 8 * place + n ≡ 8 * (place + 1024) = omega (arith, r .1) in rw e at (r .0)

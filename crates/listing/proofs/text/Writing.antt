@@ -39,6 +39,11 @@ written-on at x y out l =
     let cut : take at out ++ (x ++ drop (at + length x) out) ≡ (take at out ++ x) ++ drop (at + length x) out = sym (append-assoc (take at out) x _) in
     rw (cut, take-at (take at out ++ x) (drop (at + length x) out) _ front, sym (drop-drop (length y) (at + length x) ((take at out ++ x) ++ drop (at + length x) out)), drop-at (take at out ++ x) (drop (at + length x) out) _ front, drop-drop (length y) (at + length x) out, far, append-assoc, append-assoc)
 
+-- what was written in front of the lent bytes
+pub in-front : (n : ℕ) (text out out′ : List ℕ) → n ≡ length text → out′ ≡ written 0 text out → take n out′ ≡ text
+unfolding written
+in-front n text out out′ e is = ap (take n) is ∙ take-at text (drop (0 + length text) out) n (sym e)
+
 module _ (at : ℕ) (out : List ℕ) where
   pub nothing : Wrote at [] out at out
   nothing = (omega arith, sym (written-none at out))

@@ -1,94 +1,89 @@
--- What was read is a part of the tape, and the book stays known to be sound.
+-- What was read is a part of the tape and leads on from the book so far, and what is shown is what it prints.
 use native.Mathlib.Omega.{arith}
-use lib.ListN.{length-take}
-use Rattle.rules.specs.Hall.{mainHall}
-use Rattle.rules.specs.Form.{plain}
-use Rattle.keeps.proofs.Keeps.{plain-kept}
-use Rattle.listing.proofs.Joined.{still-known}
+use lib.ListN.{take, length-take}
+use Rattle.listing.proofs.text.Writing.{in-front}
+use Rattle.walk.proofs.Walked.{known, went}
 use borrow.Author.Needs.{needs}
 use Rattle.walk.proofs.walk_some.Statement.{statement}
 use Rattle.walk.proofs.walk_some.Tie as tie
 
--- src/main.rt:64:30
-slice-aggregate-read-full : tie.Need-slice-aggregate-read-full
-slice-aggregate-read-full c = search needs
+slice-aggregate-read-part : tie.Need-slice-aggregate-read-part
+slice-aggregate-read-part c = search needs
 
--- src/main.rt:64:9
-read-full-requires : tie.Need-read-full-requires
-read-full-requires c κs = search needs
+read-part-requires : tie.Need-read-part-requires
+read-part-requires c κs = search needs
 
--- src/main.rt:65:21
 large-buffer-requires : tie.Need-large-buffer-requires
 large-buffer-requires c κs = search needs
 
--- src/main.rt:72:9
 array-share-prefix-part : tie.Need-array-share-prefix-part
 array-share-prefix-part c = search needs
 
--- src/main.rt:72:9
 slice-aggregate-walk-part : tie.Need-slice-aggregate-walk-part
 slice-aggregate-walk-part c = search needs
 
--- src/main.rt:73:9
 slice-aggregate-walk-part-2 : tie.Need-slice-aggregate-walk-part-2
 slice-aggregate-walk-part-2 c = search needs
 
--- src/main.rt:66:9
-walk-part-requires : tie.Need-walk-part-requires
-walk-part-requires c κs = search needs
+abbrev at-read-part : tie.After-large-buffer → tie.After-read-part
+at-read-part c = c .before .before
 
--- src/main.rt:75:13
+abbrev begun : tie.After-large-buffer → tie.Start
+begun c = at-read-part c .before .before .before .before
+
+walk-part-requires : tie.Need-walk-part-requires
+walk-part-requires c κs =
+    let b = c .before .before .before in
+    (known _ _ _ (begun b .pre .0), omega (arith, at-read-part b .read-part .ensures .0), omega (arith, b .large-buffer .ensures), begun b .pre .1)
+
+array-share-prefix-part-2 : tie.Need-array-share-prefix-part-2
+array-share-prefix-part-2 c = search needs
+
+slice-aggregate-show-lines : tie.Need-slice-aggregate-show-lines
+slice-aggregate-show-lines c = search needs
+
 array-share-prefix-lines : tie.Need-array-share-prefix-lines
 array-share-prefix-lines c = search needs
 
 abbrev at-walk-part : tie.After-lines3 → tie.After-walk-part
-at-walk-part c = c .before .before .before .before
+at-walk-part c = c .before .before .before .before .before
 
 abbrev at-large-buffer : tie.After-lines3 → tie.After-large-buffer
 at-large-buffer c = at-walk-part c .before .before .before .before
 
--- src/main.rt:75:13
-slice-aggregate-show : tie.Need-slice-aggregate-show
-slice-aggregate-show c = simp length-take (omega (arith, at-walk-part c .walk-part .ensures .3, at-walk-part c .walk-part .kept .1 .1 .1 .1 .1 .1 .0, at-large-buffer c .large-buffer .ensures))
+slice-aggregate-show-lines-2 : tie.Need-slice-aggregate-show-lines-2
+slice-aggregate-show-lines-2 c = simp length-take (omega (arith, at-walk-part c .walk-part .ensures .3, at-walk-part c .walk-part .kept .1 .1 .1 .1 .1 .1 .0, at-large-buffer c .large-buffer .ensures))
 
--- src/main.rt:75:8
-show-requires : tie.Need-show-requires
-show-requires c κs = search needs
+show-lines-requires : tie.Need-show-lines-requires
+show-lines-requires c κs =
+    let w = at-walk-part c .walk-part .ensures in
+    record { book = _; reached = begun (at-large-buffer c) .pre .0; lines = in-front _ _ _ _ (w .0) (w .2) }
 
--- src/main.rt:59:1
 same-length : tie.Need-same-length
 same-length c = search needs
 
-abbrev begun : tie.After-show → tie.Start
-begun c = at-large-buffer (c .before) .before .before .before .before .before .before
-
--- src/main.rt:59:1
 returns : tie.Need-returns
-returns c = (still-known plain plain-kept mainHall _ _ _ _ (begun (c .before) .pre .0) (at-walk-part (c .before .before) .walk-part .ensures .1), omega (arith, at-large-buffer (c .before .before) .before .before .read-full .ensures))
-
--- src/main.rt:59:1
-same-length-2 : tie.Need-same-length-2
-same-length-2 c = search needs
-
--- src/main.rt:59:1
-returns-2 : tie.Need-returns-2
-returns-2 c = (still-known plain plain-kept mainHall _ _ _ _ (begun (c .before) .pre .0) (at-walk-part (c .before .before) .walk-part .ensures .1), omega arith)
+returns c =
+    let shown = c .before .before in
+    let b = at-large-buffer shown in
+    let r = at-read-part b .read-part in
+    went _ _ _ _ (take (r .result .bytes) (r .last .0)) _ (begun b .pre .0) (r .ensures .1) (omega (arith, r .ensures .0)) (at-walk-part shown .walk-part .ensures .1)
 
 pub walk-some-spec : {M : Type 1} → statement M
 walk-some-spec =
     tie.close
     (tie.spec
-    slice-aggregate-read-full
-    read-full-requires
+    slice-aggregate-read-part
+    read-part-requires
     large-buffer-requires
     array-share-prefix-part
     slice-aggregate-walk-part
     slice-aggregate-walk-part-2
     walk-part-requires
+    array-share-prefix-part-2
+    slice-aggregate-show-lines
     array-share-prefix-lines
-    slice-aggregate-show
-    show-requires
+    slice-aggregate-show-lines-2
+    show-lines-requires
     same-length
-    returns
-    same-length-2
-    returns-2)
+    returns)

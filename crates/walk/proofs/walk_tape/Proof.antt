@@ -1,64 +1,59 @@
+-- What is walked so far, from part to part. How much is left to read isn't known: the measure is the places left.
 use mathlib.Core.Path.{sym, _∙_}
-use Rattle.walk.proofs.Walked.{known-long}
--- The book is known to be sound, from part to part. How much is left to read isn't known: the measure is the places left.
-use Prim.Native.Nat.{_-_}
-use Rattle.rules.specs.Hall.{mainHall}
-use Rattle.rules.specs.Form.{plain}
-use Rattle.desk.specs.Known.{Known}
+use Prim.Native.Nat.{_*_, _-_}
+use Rattle.walk.specs.Reached.{Reached}
+use Rattle.walk.proofs.Walked.{book-long, further}
 use borrow.Author.Needs.{needs}
 use Rattle.walk.proofs.walk_tape.Statement.{statement}
 use Rattle.walk.proofs.walk_tape.Tie as tie
 
 abbrev Inv-loop : tie.InvT-loop
-Inv-loop tokens book₀ place₀ book place = Known plain mainHall tokens book
+Inv-loop tokens book₀ place₀ book place = Reached tokens book (8 * place)
 
 abbrev μ-loop : tie.MeasureT-loop
 μ-loop tokens book₀ place₀ book place = 9223372036854774783 - place
 
--- src/main.rt:92:5
 loop-holds : tie.Need-loop-holds Inv-loop μ-loop
 loop-holds c = search needs
 
--- src/main.rt:93:13
 walk-some-requires : tie.Need-walk-some-requires Inv-loop μ-loop
 walk-some-requires c κs = search needs
 
-abbrev at-walk-some : tie.Then1 Inv-loop μ-loop → tie.After-walk-some Inv-loop μ-loop
+abbrev begun : tie.After-walk-some Inv-loop μ-loop → tie.Start Inv-loop μ-loop
+begun c = c .before .before .before .before .before .before
+
+abbrev at-walk-some : tie.Else1 Inv-loop μ-loop → tie.After-walk-some Inv-loop μ-loop
 at-walk-some c = c .before .before .before
 
-abbrev begun-from-then1 : tie.Then1 Inv-loop μ-loop → tie.Start Inv-loop μ-loop
-begun-from-then1 c = at-walk-some c .before .before .before .before .before .before
-
--- src/main.rt:95:13
 same-length : tie.Need-same-length Inv-loop μ-loop
-same-length c = known-long _ _ (at-walk-some c .walk-some .ensures .0) ∙ sym (known-long _ _ (begun-from-then1 c .pre))
+same-length c =
+    let w = c .before .before .before in book-long _ _ _ (w .walk-some .ensures .0) ∙ sym (book-long _ _ _ (begun w .pre))
 
--- src/main.rt:95:13
 returns : tie.Need-returns Inv-loop μ-loop
 returns c = search needs
 
--- src/main.rt:97:9
+same-length-2 : tie.Need-same-length-2 Inv-loop μ-loop
+same-length-2 c =
+    let w = at-walk-some (c .before .before) in
+    book-long _ _ _ (w .walk-some .ensures .0) ∙ sym (book-long _ _ _ (begun w .pre))
+
+returns-2 : tie.Need-returns-2 Inv-loop μ-loop
+returns-2 c = search needs
+
 add-place : tie.Need-add-place Inv-loop μ-loop
 add-place c = search needs
 
--- src/main.rt:92:5
 loop-less : tie.Need-loop-less Inv-loop μ-loop
 loop-less c = search needs
 
--- src/main.rt:92:5
 loop-again : tie.Need-loop-again Inv-loop μ-loop
-loop-again c = search needs
+loop-again c = further _ _ _ _ (at-walk-some (c .before .before) .walk-some .ensures) (c .if2 .left)
 
-abbrev begun-from-after-loop : tie.After-loop Inv-loop μ-loop → tie.Start Inv-loop μ-loop
-begun-from-after-loop c = c .before .before .before .before
+same-length-3 : tie.Need-same-length-3 Inv-loop μ-loop
+same-length-3 c = book-long _ _ _ (c .before .loop .inv) ∙ sym (book-long _ _ _ (c .before .before .before .before .pre))
 
--- src/main.rt:87:1
-same-length-2 : tie.Need-same-length-2 Inv-loop μ-loop
-same-length-2 c = known-long _ _ (c .before .loop .inv) ∙ sym (known-long _ _ (begun-from-after-loop c .pre))
-
--- src/main.rt:87:1
-returns-2 : tie.Need-returns-2 Inv-loop μ-loop
-returns-2 c = search needs
+returns-3 : tie.Need-returns-3 Inv-loop μ-loop
+returns-3 c = search needs
 
 pub walk-tape-spec : {M : Type 1} → statement M
 walk-tape-spec =
@@ -70,8 +65,10 @@ walk-tape-spec =
     walk-some-requires
     same-length
     returns
+    same-length-2
+    returns-2
     add-place
     loop-less
     loop-again
-    same-length-2
-    returns-2)
+    same-length-3
+    returns-3)

@@ -6,8 +6,8 @@ use borrow.Author.Needs.{needs}
 use borrow.Author.Tests.{leb-true, not-true, not-false}
 use Rattle.rules.specs.Lists.{length}
 use Rattle.tape.proofs.Reader.{read-cut, read-bad, read-good}
-use Rattle.tape.proofs.Cursor.read.Statement.{statement}
-use Rattle.tape.proofs.Cursor.read.Tie as tie
+use Rattle.tape.proofs.Cursor.read_of.Statement.{statement}
+use Rattle.tape.proofs.Cursor.read_of.Tie as tie
 
 abbrev begun : tie.Else1 → tie.Start
 begun c = c .before .before .before
@@ -39,8 +39,8 @@ returns-2 c = read-bad _ _ _ _ _ (whole (at-else1 (c .before))) (c .before .befo
 returns-3 : tie.Need-returns-3
 returns-3 c = read-good _ _ _ _ _ (whole (at-else1 (c .before))) (c .before .before .entry-at .ensures) (c .before .judge .ensures) (c .if2 .left)
 
-pub read-spec : {M : Type 1} → statement M
-read-spec =
+pub read-of-spec : {M : Type 1} → statement M
+read-of-spec =
     tie.close
     (tie.spec
     is-whole-requires

@@ -1,8 +1,8 @@
 -- The three returns: refused, a part of another length, written.
 use borrow.Author.Needs.{needs}
 use Rattle.tape.proofs.Writer.{write-bad, write-cut, write-good}
-use Rattle.tape.proofs.write.Statement.{statement}
-use Rattle.tape.proofs.write.Tie as tie
+use Rattle.tape.proofs.write_of.Statement.{statement}
+use Rattle.tape.proofs.write_of.Tie as tie
 
 judge-requires : tie.Need-judge-requires
 judge-requires c κs = search needs
@@ -27,6 +27,6 @@ returns-3 c =
     let k = at-else2 c in
     write-good _ _ _ _ (k .before .before .judge .ensures) (k .before .if1 .left) _ (k .if2 .left) (c .before .before .put-entry .ensures)
 
-pub write-spec : {M : Type 1} → statement M
-write-spec =
+pub write-of-spec : {M : Type 1} → statement M
+write-of-spec =
     tie.close (tie.spec judge-requires returns returns-2 put-entry-requires same-length returns-3)
