@@ -13,11 +13,11 @@
 
 #include "draw.h"
 
-enum { MOST_RECORDS = 4096, CUSTOMERS = 16, BENCHES = 8 };
+enum { MOST_RECORDS = 4096 };
 enum call { RUN, SOUND, OPENED, TO_BYTES, FROM_BYTES };
 
-static uint32_t tokens[MOST_LISTED], start[BOOK_WORDS], book[BOOK_WORDS], opened[BOOK_WORDS];
-static uint8_t tape[8 * MOST_RECORDS], verdicts[MOST_RECORDS], bytes[BOOK_BYTES];
+static uint32_t tokens[GS_MOST_TOKENS], start[GS_BOOK_WORDS], book[GS_BOOK_WORDS], opened[GS_BOOK_WORDS];
+static uint8_t tape[8 * MOST_RECORDS], verdicts[MOST_RECORDS], bytes[GS_BOOK_BYTES];
 static size_t listed, records;
 
 static void fail(const char *why)
@@ -41,8 +41,8 @@ static void each(size_t kind, size_t rounds, size_t amount)
 {
     int no_bench = kind == 1 || kind == 4, no_customer = kind == 2 || kind == 5 || kind == 7 || kind == 8;
     for (size_t round = 0; round < rounds; round++)
-        for (size_t bench = 0; bench < (no_bench ? 1 : BENCHES); bench++)
-            for (size_t customer = 0; customer < (no_customer ? 1 : CUSTOMERS); customer++)
+        for (size_t bench = 0; bench < (no_bench ? 1 : GS_BENCHES); bench++)
+            for (size_t customer = 0; customer < (no_customer ? 1 : GS_CUSTOMERS); customer++)
                 add(kind, bench, customer, amount);
 }
 
@@ -71,8 +71,8 @@ static int all_granted(uint8_t answer)
 static void settle(enum form form)
 {
     const struct ledger *hand = &LEDGERS[HAND];
-    hand->empty(start, BOOK_WORDS);
-    if (!all_granted(hand->run[form](tokens, listed, start, BOOK_WORDS, tape, 8 * records, verdicts, records)))
+    hand->empty(start, GS_BOOK_WORDS);
+    if (!all_granted(hand->run[form](tokens, listed, start, GS_BOOK_WORDS, tape, 8 * records, verdicts, records)))
         fail("the book can't come about so");
     records = 0;
 }
@@ -105,19 +105,19 @@ static void lay_kind(size_t kind, enum form form)
 static void lay_mixed(size_t kind, enum form form)
 {
     (void)kind;
-    list(MOST_LISTED);
+    list(GS_MOST_TOKENS);
     everybody_joins();
     settle(form);
     for (size_t round = 0; round < 30; round++) {
-        add(5, 2 * round % BENCHES, 0, 8);
-        add(5, 2 * round % BENCHES + 1, 0, 8);
-        for (size_t customer = 0; customer < CUSTOMERS; customer++) {
-            size_t one = (round + customer) % BENCHES, other = (one + 3) % BENCHES;
+        add(5, 2 * round % GS_BENCHES, 0, 8);
+        add(5, 2 * round % GS_BENCHES + 1, 0, 8);
+        for (size_t customer = 0; customer < GS_CUSTOMERS; customer++) {
+            size_t one = (round + customer) % GS_BENCHES, other = (one + 3) % GS_BENCHES;
             add(4, 0, customer, 6);
             add(6, one, customer, 1);
             add(6, other, customer, 2);
             add(6, one, customer, 3);
-            add(7 + customer % 2, 2 * round % BENCHES + customer / 8, 0, 0);
+            add(7 + customer % 2, 2 * round % GS_BENCHES + customer / 8, 0, 0);
             add(9, one, customer, 0);
             add(9, other, customer, 0);
         }
@@ -132,38 +132,38 @@ static void lay_day(size_t kind, enum form form)
     everybody_joins();
     each(4, 1, 8);
     each(5, 1, 4);
-    for (size_t customer = 0; customer < CUSTOMERS; customer++) {
-        add(6, customer % BENCHES, customer, 1);
-        add(6, customer % BENCHES, customer, 2);
+    for (size_t customer = 0; customer < GS_CUSTOMERS; customer++) {
+        add(6, customer % GS_BENCHES, customer, 1);
+        add(6, customer % GS_BENCHES, customer, 2);
     }
     settle(form);
 }
 
 static void fill(size_t record, size_t from, size_t sales)
 {
-    uint32_t *words = start + RECORD_WORDS * record;
-    words[2] = 32;
-    words[3] = (uint32_t)sales;
+    uint32_t *words = start + GS_RECORD_WORDS * record;
+    words[GS_COUNT] = 32;
+    words[GS_SALES] = (uint32_t)sales;
     for (size_t i = 0; i < 32; i++)
-        words[4 + i] = tokens[from + i];
+        words[GS_CELLS + i] = tokens[from + i];
 }
 
 /* 4,096 listed and dealt; views, tills and lines hold 32 each, and so the carnets nothing. A line has 16 sales. */
 static void lay_full(size_t kind, enum form form)
 {
     (void)kind;
-    list(MOST_LISTED);
+    list(GS_MOST_TOKENS);
     everybody_joins();
     settle(form);
-    start[1] = MOST_LISTED;
-    for (size_t record = 17; record < 49; record++)
-        fill(record, 32 * (record - 17), 0);
-    for (size_t line = 0; line < BENCHES * CUSTOMERS; line++) {
-        fill(49 + line, 32 * line, 16);
+    start[GS_WORD(GS_DESK, GS_AMOUNT)] = GS_MOST_TOKENS;
+    for (size_t record = GS_CUSTOMER_VIEW(0); record < GS_LINE(0, 0); record++)
+        fill(record, 32 * (record - GS_CUSTOMER_VIEW(0)), 0);
+    for (size_t line = 0; line < GS_BENCHES * GS_CUSTOMERS; line++) {
+        fill(GS_LINE(0, line), 32 * line, 16);
         for (size_t i = 1; i < 32 && form == SLIP; i += 2)
-            start[RECORD_WORDS * (49 + line) + 4 + i] = 2;
+            start[GS_WORD(GS_LINE(0, line), GS_CELLS + i)] = 2;
     }
-    if (LEDGERS[HAND].sound[form](tokens, listed, start, BOOK_WORDS) != 0)
+    if (LEDGERS[HAND].sound[form](tokens, listed, start, GS_BOOK_WORDS) != 0)
         fail("the full book isn't sound");
 }
 
@@ -198,21 +198,21 @@ __attribute__((noinline)) uint8_t measured(const struct ledger *ledger, enum cal
 {
     switch (call) {
     case RUN:
-        return ledger->run[form](tokens, listed, book, BOOK_WORDS, tape, 8 * records, verdicts, records);
+        return ledger->run[form](tokens, listed, book, GS_BOOK_WORDS, tape, 8 * records, verdicts, records);
     case SOUND:
-        return ledger->sound[form](tokens, listed, book, BOOK_WORDS);
+        return ledger->sound[form](tokens, listed, book, GS_BOOK_WORDS);
     case OPENED:
-        return ledger->open(tokens, listed, book, BOOK_WORDS, opened, BOOK_WORDS);
+        return ledger->open(tokens, listed, book, GS_BOOK_WORDS, opened, GS_BOOK_WORDS);
     case TO_BYTES:
-        return ledger->to_bytes(book, BOOK_WORDS, bytes, BOOK_BYTES);
+        return ledger->to_bytes(book, GS_BOOK_WORDS, bytes, GS_BOOK_BYTES);
     default:
-        return ledger->from_bytes(bytes, BOOK_BYTES, book, BOOK_WORDS);
+        return ledger->from_bytes(bytes, GS_BOOK_BYTES, book, GS_BOOK_WORDS);
     }
 }
 
 __attribute__((noinline)) uint8_t bare(const struct ledger *ledger, enum call call, enum form form)
 {
-    return call == RUN ? ledger->run[form](tokens, listed, book, BOOK_WORDS, tape, 0, verdicts, 0) : 0;
+    return call == RUN ? ledger->run[form](tokens, listed, book, GS_BOOK_WORDS, tape, 0, verdicts, 0) : 0;
 }
 
 static long long now(void)
@@ -226,7 +226,7 @@ static long long now(void)
 static long long repeat(const struct ledger *ledger, enum call call, enum form form, size_t repeats)
 {
     long long spent = 0;
-    LEDGERS[HAND].to_bytes(start, BOOK_WORDS, bytes, BOOK_BYTES);
+    LEDGERS[HAND].to_bytes(start, GS_BOOK_WORDS, bytes, GS_BOOK_BYTES);
     for (size_t i = 0; i < repeats; i++) {
         memcpy(book, start, sizeof book);
         spent += now();

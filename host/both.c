@@ -1,6 +1,5 @@
 #include "both.h"
 
-#include "gingerstall.h"
 #include "ledger.h"
 
 const struct ledger LEDGERS[2] = {

@@ -3,10 +3,8 @@
 #ifndef BOTH_H
 #define BOTH_H
 
-#include <stddef.h>
-#include <stdint.h>
+#include "gingerstall.h"
 
-enum { BOOK_WORDS = 6372, BOOK_BYTES = 25488, RECORD_WORDS = 36, MOST_LISTED = 4096 };
 enum form { PLAIN, SLIP };
 
 struct entry {

@@ -8,7 +8,7 @@
 
 #include "both.h"
 
-enum { LIST = MOST_LISTED + 1, WORDS = BOOK_WORDS + 1, BYTES = BOOK_BYTES + 4, MOST_VERDICTS = 32, TEXT = 1 << 20 };
+enum { LIST = GS_MOST_TOKENS + 1, WORDS = GS_BOOK_WORDS + 1, BYTES = GS_BOOK_BYTES + 4, MOST_VERDICTS = 32, TEXT = 1 << 20 };
 
 /* What a row is tried on, and what it has said so far: its last five numbers, oldest first; how much is lent of the list,
    of the book, and of the tape to be written; where the tape ends. */
@@ -35,7 +35,7 @@ static void show(size_t number)
 
 static size_t place(uint32_t record, uint32_t word)
 {
-    return RECORD_WORDS * (size_t)record + word;
+    return GS_WORD((size_t)record, word);
 }
 
 /* What is lent of the book; a word past it is 0, and isn't stored. */
@@ -183,9 +183,9 @@ static void begin(enum form form, const uint32_t *loaded)
     memset(&t, 0, sizeof t);
     t.form = form;
     t.tokens = 160;
-    t.words = BOOK_WORDS;
+    t.words = GS_BOOK_WORDS;
     t.part = 8;
-    memcpy(t.book, loaded, 4 * BOOK_WORDS);
+    memcpy(t.book, loaded, 4 * GS_BOOK_WORDS);
     for (uint32_t i = 0; i < LIST; i++)
         t.list[i] = i == 140 ? 0 : 100 + i;
 }
@@ -204,13 +204,13 @@ static void try_row(enum form form, uint32_t *loaded, const char *row, size_t le
         on_sign(row[i]);
     printf("\n");
     if (row[0] == 'l')
-        memcpy(loaded, t.book, 4 * BOOK_WORDS);
+        memcpy(loaded, t.book, 4 * GS_BOOK_WORDS);
 }
 
 int main(int words, char **word)
 {
     static char text[TEXT];
-    static uint32_t loaded[2][BOOK_WORDS];
+    static uint32_t loaded[2][GS_BOOK_WORDS];
     FILE *rows = words == 2 ? fopen(word[1], "rb") : NULL;
     size_t size = rows ? fread(text, 1, TEXT, rows) : TEXT, end;
     if (size == TEXT) {

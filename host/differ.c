@@ -12,7 +12,7 @@
 #include "draw.h"
 #include "hold.h"
 
-static const struct counts RIGHT = {0, BOOK_WORDS, BOOK_WORDS, 0, 0, BOOK_BYTES, 5, 8};
+static const struct counts RIGHT = {0, GS_BOOK_WORDS, GS_BOOK_WORDS, 0, 0, GS_BOOK_BYTES, 5, 8};
 
 /* ---- how often each number was answered ---- */
 
@@ -66,7 +66,7 @@ static void lay_junk(void)
 
 static size_t draw_listed(void)
 {
-    size_t edges[] = {0, 1, MOST_LISTED, MOST_LISTED + 1};
+    size_t edges[] = {0, 1, GS_MOST_TOKENS, GS_MOST_TOKENS + 1};
     if (chance(1))
         return edges[draw(4)];
     return draw(chance(30) ? 150 : chance(80) ? 500 : 1000);
@@ -93,9 +93,9 @@ static void grow(enum form form, struct counts c)
 {
     struct lent *b = &LENT[HAND];
     size_t records = draw(chance(10) ? 5 : 150);
-    LEDGERS[HAND].empty(b->book, BOOK_WORDS);
+    LEDGERS[HAND].empty(b->book, GS_BOOK_WORDS);
     draw_tape(b->tape, records, 1);
-    LEDGERS[HAND].run[form](b->tokens, c.tokens, b->book, BOOK_WORDS, b->tape, 8 * records, b->verdicts, records);
+    LEDGERS[HAND].run[form](b->tokens, c.tokens, b->book, GS_BOOK_WORDS, b->tape, 8 * records, b->verdicts, records);
     share();
 }
 
@@ -165,7 +165,7 @@ static uint8_t try_steps(enum form form, struct counts c)
     for (size_t i = 0; i < c.verdicts; i++)
         if (stepped.verdicts[i] != (answer ? answer : LENT[HAND].verdicts[i]))
             disagrees("step against run", "verdict", i, stepped.verdicts[i], LENT[HAND].verdicts[i]);
-    for (size_t i = 0; i < BOOK_WORDS; i++)
+    for (size_t i = 0; i < GS_BOOK_WORDS; i++)
         if (stepped.book[i] != LENT[HAND].book[i])
             disagrees("step against run", "book", i, stepped.book[i], LENT[HAND].book[i]);
     return answer;
@@ -196,7 +196,7 @@ static void try_from_empty(struct counts c)
         if (plain.verdicts[i] != LENT[HAND].verdicts[i])
             disagrees("plain against slip", "verdict", i, plain.verdicts[i], LENT[HAND].verdicts[i]);
     tell(OPENED, both_open(c));
-    for (size_t i = 0; i < BOOK_WORDS; i++)
+    for (size_t i = 0; i < GS_BOOK_WORDS; i++)
         if (plain.book[i] != LENT[HAND].opened[i])
             disagrees("plain against slip", "book", i, plain.book[i], LENT[HAND].opened[i]);
 }
@@ -312,8 +312,11 @@ static const uint8_t TWELVE_VERDICTS[12] = {0, 0, 0, 0, 0, 0, 11, 0, 0, 8, 10, 0
 
 /* Words of the book afterwards: customer 3 has a budget of 4 and 3 tokens, bench 1 a balance of 2 and 1 token in its
    till, and nothing waits. */
-static const size_t TWELVE_WORDS[][2] = {{36 * 20 + 1, 4}, {36 * 20 + 2, 3}, {36 * 4 + 2, 3},
-                                         {36 * 34 + 1, 2}, {36 * 42 + 2, 1}, {36 * 68 + 2, 0}};
+static const size_t TWELVE_WORDS[][2] = {
+    {GS_WORD(GS_CUSTOMER_VIEW(3), GS_AMOUNT), 4}, {GS_WORD(GS_CUSTOMER_VIEW(3), GS_COUNT), 3},
+    {GS_WORD(GS_CARNET(3), GS_COUNT), 3},         {GS_WORD(GS_BENCH_VIEW(1), GS_AMOUNT), 2},
+    {GS_WORD(GS_TILL(1), GS_COUNT), 1},           {GS_WORD(GS_LINE(1, 3), GS_COUNT), 0},
+};
 
 static void try_twelve(enum form form)
 {
@@ -394,7 +397,7 @@ static void try_numbers(enum form form)
     for (size_t i = 0; i < c.verdicts; i++)
         if (LENT[PROVED].verdicts[i] != expected[i])
             differs("every number", "verdict", i, expected[i], LENT[PROVED].verdicts[i]);
-    uint32_t *till = LENT[HAND].book + RECORD_WORDS * (41 + bench) + 4, first = till[0];
+    uint32_t *till = LENT[HAND].book + GS_WORD(GS_TILL(bench), GS_CELLS), first = till[0];
     till[0] = till[1];
     till[1] = first;
     share();

@@ -1,7 +1,9 @@
 #include "draw.h"
 
-enum { CARNETS = 1, CUSTOMER_VIEWS = 17, BENCH_VIEWS = 33, TILLS = 41, LINES = 49, RECORDS = 177 };
-enum { IN_USE, AMOUNT, COUNT, SALES, CELL };
+/* The first record of each sort, and the words of a record, by short names. */
+enum { CARNETS = GS_CARNET(0), CUSTOMER_VIEWS = GS_CUSTOMER_VIEW(0), BENCH_VIEWS = GS_BENCH_VIEW(0), TILLS = GS_TILL(0) };
+enum { LINES = GS_LINE(0, 0), RECORDS = GS_BOOK_RECORDS };
+enum { IN_USE = GS_IN_USE, AMOUNT = GS_AMOUNT, COUNT = GS_COUNT, SALES = GS_SALES, CELL = GS_CELLS };
 
 /* ---- numbers ---- */
 
@@ -251,7 +253,7 @@ void draw_tape(uint8_t *tape, size_t records, int joining)
 
 static uint32_t *record_of(uint32_t *book, size_t record)
 {
-    return book + RECORD_WORDS * record;
+    return book + GS_RECORD_WORDS * record;
 }
 
 static uint32_t any_token(const uint32_t *tokens, size_t n)
@@ -263,7 +265,7 @@ static uint32_t any_token(const uint32_t *tokens, size_t n)
 static size_t any_in_use(const uint32_t *book, size_t first, size_t count)
 {
     size_t record = first + draw(count);
-    for (int tries = 0; tries < 20 && book[RECORD_WORDS * record] == 0; tries++)
+    for (int tries = 0; tries < 20 && book[GS_RECORD_WORDS * record] == 0; tries++)
         record = first + draw(count);
     return record;
 }

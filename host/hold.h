@@ -5,7 +5,7 @@
 
 #include "both.h"
 
-enum { LIST_ROOM = MOST_LISTED + 64, BOOK_ROOM = BOOK_WORDS + 64, BYTES_ROOM = BOOK_BYTES + 64 };
+enum { LIST_ROOM = GS_MOST_TOKENS + 64, BOOK_ROOM = GS_BOOK_WORDS + 64, BYTES_ROOM = GS_BOOK_BYTES + 64 };
 enum { MOST_RECORDS = 600, TAPE_ROOM = 8 * MOST_RECORDS + 64, SMALL_ROOM = 64 };
 
 /* All that can be lent, in one piece: a cell written outside of what was lent is within it too, and is seen. */

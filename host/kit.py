@@ -11,10 +11,16 @@ MADE_OF = ARCHIVE.with_suffix(".made-of")
 ON = shared.walk.kit() / "on" / os.uname().machine
 TOOLCHAIN = ON / "toolchain"
 TARGET = "x86_64-unknown-linux-gnu"
+BUILD = ["rt", "staticlib", "gingerstall"]
+STRICT = ["-Wall", "-Wextra", "-Werror", "-pedantic"]
 
 
 class Failed(Exception):
     """What a compiler or linker said when it failed."""
+
+
+class Fault(Exception):
+    """Why a test fails."""
 
 
 def content():
@@ -30,31 +36,37 @@ def prove():
     """Builds the library, unless it is there and made of just these files."""
     if ARCHIVE.exists() and MADE_OF.exists() and MADE_OF.read_text() == content():
         return
-    rt = subprocess.run(["rt", "staticlib", "gingerstall"], cwd=ROOT, stdout=subprocess.PIPE, text=True)
+    rt = subprocess.run(BUILD, cwd=ROOT, stdout=subprocess.PIPE, text=True)
     if rt.returncode != 0:
         sys.exit(f"{rt.stdout}host: the library isn't built")
     MADE_OF.write_text(content())
 
 
-def said(command):
+def said(command, **more):
+    """What a program prints, and its status."""
+    done = subprocess.run(command, stdout=subprocess.PIPE, stderr=subprocess.STDOUT, text=True, **more)
+    return done.stdout, done.returncode
+
+
+def done(command, **more):
     """Runs what only speaks where it fails."""
-    done = subprocess.run(command, stdout=subprocess.PIPE, stderr=subprocess.STDOUT, text=True)
-    if done.returncode != 0:
-        raise Failed(f"{pathlib.Path(command[0]).name} failed and said:\n{done.stdout}")
+    printed, status = said(command, **more)
+    if status != 0:
+        raise Failed(f"{pathlib.Path(command[0]).name} failed and said:\n{printed}")
 
 
-def compiled(room, source):
+def compiled(room, source, *language):
     """The object file of a C file. The kit has no C headers, so that those of this machine are kept out too."""
     made = room / f"{source.stem}.o"
-    clang = [TOOLCHAIN / "bin/clang", f"--target={TARGET}", "-O3", "-fPIC", "-std=c11", "-Wall", "-Wextra", "-Werror"]
+    clang = [TOOLCHAIN / "bin/clang", f"--target={TARGET}", "-O3", "-fPIC", *(language or ["-std=c11"]), *STRICT]
     headers = ["-nostdinc", "-isystem", HOST / "headers", "-I", ROOT / "include", "-I", HOST]
-    said([*clang, *headers, "-c", source, "-o", made])
+    done([*clang, *headers, "-c", source, "-o", made])
     return made
 
 
 def linked(made, *objects):
     """The program of some object files and the library."""
-    said([ON / "bin/rattle-link", "--target", TARGET, "--toolchain", TOOLCHAIN, "-o", made, *objects, ARCHIVE])
+    done([ON / "bin/rattle-link", "--target", TARGET, "--toolchain", TOOLCHAIN, "-o", made, *objects, ARCHIVE])
     return made
 
 

@@ -13,6 +13,32 @@
 #include <stddef.h>
 #include <stdint.h>
 
+/* Lengths. */
+#define GS_RECORD_WORDS 36
+#define GS_BOOK_RECORDS 177
+#define GS_BOOK_WORDS 6372
+#define GS_BOOK_BYTES 25488 /* of a book on file */
+#define GS_TAPE_BYTES 8     /* of one record on a tape */
+#define GS_MOST_TOKENS 4096 /* in a list */
+#define GS_CUSTOMERS 16     /* numbered from 0 */
+#define GS_BENCHES 8        /* numbered from 0 */
+
+/* The number of each record in a book. */
+#define GS_DESK 0
+#define GS_CARNET(customer) (1 + (customer))
+#define GS_CUSTOMER_VIEW(customer) (17 + (customer)) /* the desk's view of the customer */
+#define GS_BENCH_VIEW(bench) (33 + (bench))          /* the desk's view of the bench */
+#define GS_TILL(bench) (41 + (bench))
+#define GS_LINE(bench, customer) (49 + GS_CUSTOMERS * (bench) + (customer))
+
+/* The words of a record, and the place of such a word in the book. */
+#define GS_IN_USE 0
+#define GS_AMOUNT 1
+#define GS_COUNT 2
+#define GS_SALES 3
+#define GS_CELLS 4 /* the first of them */
+#define GS_WORD(record, word) (GS_RECORD_WORDS * (record) + (word))
+
 #ifdef __cplusplus
 extern "C" {
 #endif

@@ -1,0 +1,80 @@
+/* Holds the constants of include/gingerstall.h to what the library does. Says what differs, and then ends with status 1.
+   It is C99 and C++ at once. */
+#include "gingerstall.h" /* first: it has to do by itself */
+
+#include <stdio.h>
+#include <string.h>
+
+static uint32_t tokens[GS_MOST_TOKENS + 1], book[GS_BOOK_WORDS + 1], expected[GS_BOOK_WORDS];
+static uint8_t bytes[GS_BOOK_BYTES + 1], tape[9 * GS_TAPE_BYTES], verdicts[9];
+static int differences;
+
+static void is(const char *what, size_t found, size_t wanted)
+{
+    if (found == wanted)
+        return;
+    printf("%s: %lu, and %lu was expected\n", what, (unsigned long)found, (unsigned long)wanted);
+    differences++;
+}
+
+static void lengths(void)
+{
+    is("the words of all records", GS_BOOK_RECORDS * GS_RECORD_WORDS, GS_BOOK_WORDS);
+    is("an empty book", gs_empty(book, GS_BOOK_WORDS), 0);
+    is("an empty book, a word longer", gs_empty(book, GS_BOOK_WORDS + 1), 1);
+    is("to bytes", gs_book_to_bytes(book, GS_BOOK_WORDS, bytes, GS_BOOK_BYTES), 0);
+    is("to a byte more", gs_book_to_bytes(book, GS_BOOK_WORDS, bytes, GS_BOOK_BYTES + 1), 1);
+    is("the longest list", gs_sound(tokens, GS_MOST_TOKENS, book, GS_BOOK_WORDS), 0);
+    is("a list too long", gs_sound(tokens, GS_MOST_TOKENS + 1, book, GS_BOOK_WORDS), 1);
+    is("a tape's record", gs_write(2, 0, 0, 0, 0, tape, GS_TAPE_BYTES), 0);
+    is("a byte more", gs_write(2, 0, 0, 0, 0, tape, GS_TAPE_BYTES + 1), 16);
+    is("the last customer", gs_write(1, 0, GS_CUSTOMERS - 1, 0, 0, tape, GS_TAPE_BYTES), 0);
+    is("the next one", gs_write(1, 0, GS_CUSTOMERS, 0, 0, tape, GS_TAPE_BYTES), 3);
+    is("the last bench", gs_write(2, GS_BENCHES - 1, 0, 0, 0, tape, GS_TAPE_BYTES), 0);
+    is("the next one", gs_write(2, GS_BENCHES, 0, 0, 0, tape, GS_TAPE_BYTES), 3);
+    is("the last record", GS_LINE(GS_BENCHES - 1, GS_CUSTOMERS - 1), GS_BOOK_RECORDS - 1);
+}
+
+/* A record in use, with n tokens from the list's place on. */
+static void expect(size_t record, uint32_t amount, uint32_t sales, size_t place, uint32_t n)
+{
+    expected[GS_WORD(record, GS_IN_USE)] = 1;
+    expected[GS_WORD(record, GS_AMOUNT)] = amount;
+    expected[GS_WORD(record, GS_COUNT)] = n;
+    expected[GS_WORD(record, GS_SALES)] = sales;
+    memcpy(expected + GS_WORD(record, GS_CELLS), tokens + place, 4 * n);
+}
+
+/* A day of one customer and one bench, after which each of their records differs from all others. */
+static void day(uint8_t bench, uint8_t customer)
+{
+    const uint8_t steps[9][2] = {{1, 9}, {2, 0}, {3, 0}, {4, 6}, {5, 2}, {6, 2}, {9, 0}, {6, 1}, {6, 1}};
+    for (size_t i = 0; i < 9; i++) {
+        uint8_t kind = steps[i][0], at = kind == 1 || kind == 4 ? 0 : bench, who = kind == 2 || kind == 5 ? 0 : customer;
+        gs_write(kind, at, who, 0, steps[i][1], tape + GS_TAPE_BYTES * i, GS_TAPE_BYTES);
+    }
+    gs_empty(book, GS_BOOK_WORDS);
+    is("the run", gs_run(tokens, GS_MOST_TOKENS, book, GS_BOOK_WORDS, tape, sizeof tape, verdicts, sizeof verdicts), 0);
+    memset(expected, 0, sizeof expected);
+    expect(GS_DESK, 8, 0, 0, 0);
+    expect(GS_CARNET(customer), 0, 0, 4, 2);
+    expect(GS_CUSTOMER_VIEW(customer), 3, 0, 2, 4);
+    expect(GS_BENCH_VIEW(bench), 2, 0, 6, 2);
+    expect(GS_TILL(bench), 0, 0, 6, 2);
+    expect(GS_LINE(bench, customer), 0, 2, 2, 2);
+    uint32_t *line = expected + GS_WORD(GS_LINE(bench, customer), GS_CELLS);
+    line[0] = tokens[3]; /* the newest first */
+    line[1] = tokens[2];
+    for (size_t i = 0; i < GS_BOOK_WORDS; i++)
+        is("a word of the book", book[i], expected[i]);
+}
+
+int main(void)
+{
+    for (uint32_t i = 0; i <= GS_MOST_TOKENS; i++)
+        tokens[i] = 1000 + i;
+    lengths();
+    day(GS_BENCHES - 1, GS_CUSTOMERS - 1);
+    day(2, 5); /* two that can't be taken for each other */
+    return differences != 0;
+}
