@@ -18,7 +18,7 @@ def load_tape():
 tape = load_tape()
 UPDATE, SELL, CLEAR = 4, 6, 9  # the kinds that change what waits in a line
 
-# What a number says, word for word as README.md has it, and what to do.
+# What a number says, and what to do, word for word as README.md has it.
 VERDICTS = {
     1: ("there is no good token list, so that no step was done",
         "Take the last good copy of tokens.rec, and walk again."),
