@@ -39,7 +39,7 @@ static void add(size_t kind, size_t bench, size_t customer, size_t amount)
 /* A step of this kind for everybody that it may concern, some times over. */
 static void each(size_t kind, size_t rounds, size_t amount)
 {
-    int no_bench = kind == 1 || kind == 4, no_customer = kind == 2 || kind == 5 || kind == 7 || kind == 8;
+    int no_bench = kind == 1 || kind == 4 || kind == 10, no_customer = kind == 2 || kind == 5 || kind == 7 || kind == 8;
     for (size_t round = 0; round < rounds; round++)
         for (size_t bench = 0; bench < (no_bench ? 1 : GS_BENCHES); bench++)
             for (size_t customer = 0; customer < (no_customer ? 1 : GS_CUSTOMERS); customer++)
@@ -82,7 +82,7 @@ static void settle(enum form form)
 /* As many steps of one kind as are granted one after the other, in a full hall. */
 static void lay_kind(size_t kind, enum form form)
 {
-    static const size_t rounds[] = {0, 1, 1, 1, 8, 16, 2, 32, 32, 1}, amounts[] = {0, 10000, 0, 0, 2, 8, 2, 0, 0, 0};
+    static const size_t rounds[] = {0, 1, 1, 1, 8, 16, 2, 32, 32, 1, 8}, amounts[] = {0, 10000, 0, 0, 2, 8, 2, 0, 0, 0, 2};
     list(kind <= 3 ? 0 : 1200);
     if (kind >= 3) {
         each(1, 1, 10000);
@@ -183,6 +183,7 @@ static const struct {
     {"bench authenticates", RUN, lay_kind, 7},
     {"desk authenticates", RUN, lay_kind, 8},
     {"clear", RUN, lay_kind, 9},
+    {"top up", RUN, lay_kind, 10},
     {"is a full book sound", SOUND, lay_full, 0},
     {"is a day's book sound", SOUND, lay_day, 0},
     {"a full book opened", OPENED, lay_full, 0},

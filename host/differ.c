@@ -17,14 +17,15 @@ static const struct counts RIGHT = {0, GS_BOOK_WORDS, GS_BOOK_WORDS, 0, 0, GS_BO
 /* ---- how often each number was answered ---- */
 
 enum { NUMBERS = 17 };
-enum tally { PLAIN_STEPS, SLIP_STEPS, PLAIN_SOUND, SLIP_SOUND, OPENED, READER, WRITER, TALLIES };
+enum tally { PLAIN_STEPS, SLIP_STEPS, PLAIN_SOUND, SLIP_SOUND, OPENED, READER, WRITER, TOP_UPS, TALLIES };
+enum { TOP_UP = 10 };
 
 static const struct {
     const char *name;
     uint32_t can; /* a bit for each number that can be answered */
 } ANSWERS[TALLIES] = {
     {"plain book", 0x1ffff}, {"slip book", 0x1ffff}, {"plain sound", 3}, {"slip sound", 3},
-    {"slips opened", 3},     {"reader", 0x1000d},    {"writer", 0x1000d},
+    {"slips opened", 3},     {"reader", 0x1000d},    {"writer", 0x1000d}, {"top ups", 0xaf},
 };
 static const enum tally STEPS[] = {PLAIN_STEPS, SLIP_STEPS}, SOUND[] = {PLAIN_SOUND, SLIP_SOUND};
 static size_t tallies[TALLIES][NUMBERS];
@@ -35,6 +36,15 @@ static uint8_t tell(enum tally tally, uint8_t answer)
         differs(ANSWERS[tally].name, "a number that can't be answered", NO_PLACE, answer, answer);
     tallies[tally][answer]++;
     return answer;
+}
+
+/* The verdict of a step. Top ups are counted by themselves too: other kinds get the same numbers, so the books' tallies
+   wouldn't show it if none were tried at its bound. */
+static uint8_t tell_step(enum form form, uint8_t kind, uint8_t verdict)
+{
+    if (kind == TOP_UP)
+        tell(TOP_UPS, verdict);
+    return tell(STEPS[form], verdict);
 }
 
 /* Prints each number with how often it came up; answers whether one never did. */
@@ -134,11 +144,16 @@ static void spoil(enum form form, struct counts c)
 
 /* ---- runs and steps ---- */
 
+static uint8_t try_step(enum form form, struct counts c, struct entry e)
+{
+    return tell_step(form, e.kind, both_step(form, c, e));
+}
+
 static uint8_t tell_run(enum form form, struct counts c)
 {
     uint8_t answer = tell(STEPS[form], both_run(form, c));
     for (size_t i = 0; answer == 0 && i < c.verdicts; i++)
-        tell(STEPS[form], LENT[HAND].verdicts[i]);
+        tell_step(form, LENT[HAND].tape[8 * i], LENT[HAND].verdicts[i]);
     return answer;
 }
 
@@ -156,7 +171,7 @@ static uint8_t try_steps(enum form form, struct counts c)
     for (size_t i = 0, at = 0; i < c.verdicts; i++, at = both_read_next(c, at)) {
         STANDING.step = (long)i;
         tell(READER, both_read(c, at));
-        stepped.verdicts[i] = tell(STEPS[form], both_step(form, c, entry_read()));
+        stepped.verdicts[i] = try_step(form, c, entry_read());
     }
     STANDING.step = -1;
     memcpy(stepped.book, LENT[HAND].book, sizeof stepped.book);
@@ -246,7 +261,7 @@ static void try_counts(struct counts c)
         tell(SOUND[form], both_sound(form, draw_counts(c)));
         tell(OPENED, both_open(draw_counts(c)));
         tell_run(form, draw_counts(c));
-        tell(STEPS[form], both_step(form, draw_counts(c), draw_entry()));
+        try_step(form, draw_counts(c), draw_entry());
         both_to_bytes(draw_counts(c));
         tell(READER, both_read(draw_counts(c), draw(c.tape + 9)));
         tell(WRITER, both_write(draw_counts(c), draw_entry()));
@@ -343,7 +358,8 @@ static void try_twelve(enum form form)
 /* ---- every number, whatever the seed ---- */
 
 /* The steps of two customers, of one who never joins and of a bench over 40 tokens, and what they get: the numbers that a
-   book grown from empty answers. Who they are is drawn. */
+   book grown from empty answers. Who they are is drawn. The two have joined with 59 and may have 2,000,000 together, so
+   that one is topped up to more than anybody may join with, and trades on. */
 enum { FIRST = 100, SECOND, NOBODY, BENCH };
 static const struct {
     struct entry entry;
@@ -356,8 +372,12 @@ static const struct {
     {{4, 0, FIRST, 0, 15}, 1, 10}, {{6, BENCH, FIRST, 0, 18}, 1, 11}, {{6, BENCH, FIRST, 0, 1}, 16, 0},
     {{6, BENCH, FIRST, 0, 1}, 1, 12}, {{7, BENCH, 0, 0, 0}, 1, 13},  {{9, BENCH, FIRST, 0, 0}, 1, 0},
     {{4, 0, SECOND, 0, 2}, 1, 0},  {{6, BENCH, SECOND, 0, 1}, 1, 0}, {{4, 0, SECOND, 0, 0}, 1, 0},
-    {{9, BENCH, SECOND, 0, 0}, 1, 15}, {{5, BENCH, 0, 0, 2}, 1, 0},  {{10, 0, 0, 0, 0}, 1, 2},
-    {{2, 8, 0, 0, 0}, 1, 3},
+    {{9, BENCH, SECOND, 0, 0}, 1, 15}, {{5, BENCH, 0, 0, 2}, 1, 0},  {{11, 0, 0, 0, 0}, 1, 2},
+    {{2, 8, 0, 0, 0}, 1, 3},       {{10, 1, FIRST, 0, 1}, 1, 2},     {{10, 0, FIRST, 1, 1}, 1, 2},
+    {{10, 0, 16, 0, 1}, 1, 3},     {{10, 0, NOBODY, 0, 2000000}, 1, 5}, {{10, 0, FIRST, 0, 4294967295}, 1, 7},
+    {{10, 0, FIRST, 0, 1999942}, 1, 7}, {{10, 0, FIRST, 0, 1999941}, 1, 0}, {{10, 0, SECOND, 0, 1}, 1, 7},
+    {{10, 0, SECOND, 0, 0}, 1, 0}, {{4, 0, FIRST, 0, 3}, 1, 0},      {{6, BENCH, FIRST, 0, 2}, 1, 0},
+    {{9, BENCH, FIRST, 0, 0}, 1, 0}, {{10, 0, FIRST, 0, 1}, 1, 7},
 };
 
 static struct entry named(struct entry e, uint8_t bench, uint8_t customer)
@@ -381,8 +401,20 @@ static size_t lay_tour(uint8_t bench, uint8_t customer, uint8_t *verdicts)
     return count;
 }
 
-/* Every number that can be answered is, and is the one that document 01 says: those of the tour, then 14 where the tokens
-   of a till are exchanged, 16 for a tape that is cut, and 1 where the desk isn't in use. */
+/* What an unsound book gets, whatever is asked of it. */
+static void try_unsound(enum form form, struct counts c)
+{
+    share();
+    tell(STEPS[form], both_run(form, c));
+    tell(SOUND[form], both_sound(form, c));
+    tell(OPENED, both_open(c));
+    if (try_step(form, c, (struct entry){TOP_UP, 0, 0, 0, 0}) != 1)
+        differs("every number", "a top up in an unsound book", NO_PLACE, 1, 0);
+}
+
+/* Every number that can be answered is, and is the one that documents 01 and 02 say: those of the tour, then 14 where the
+   tokens of a till are exchanged, 16 for a tape that is cut, and 1 where the desk isn't in use, or where no word could be
+   higher. */
 static void try_numbers(enum form form)
 {
     struct counts c = RIGHT;
@@ -403,21 +435,20 @@ static void try_numbers(enum form form)
     share();
     const struct entry authenticates = {7, bench, 0, 0, 0};
     tell(SOUND[form], both_sound(form, c));
-    if (tell(STEPS[form], both_step(form, c, authenticates)) != 14)
+    if (try_step(form, c, authenticates) != 14)
         differs("every number", "a token that differs", NO_PLACE, 14, 0);
     tell(OPENED, both_open(c));
     tell(READER, both_read(c, c.tape));
     tell(WRITER, both_write(c, authenticates));
-    tell(WRITER, both_write(c, (struct entry){10, 0, 0, 0, 0}));
+    tell(WRITER, both_write(c, (struct entry){TOP_UP + 1, 0, 0, 0, 0}));
     tell(WRITER, both_write(c, (struct entry){7, 8, 0, 0, 0}));
     c.part = c.tape = 7;
     tell(WRITER, both_write(c, authenticates));
     tell(STEPS[form], both_run(form, c));
     LENT[HAND].book[0] = 0;
-    share();
-    tell(STEPS[form], both_run(form, c));
-    tell(SOUND[form], both_sound(form, c));
-    tell(OPENED, both_open(c));
+    try_unsound(form, c);
+    memset(LENT[HAND].book, 0xff, sizeof LENT[HAND].book);
+    try_unsound(form, c);
 }
 
 /* ---- all of it ---- */

@@ -109,6 +109,22 @@ static size_t draw_budget(void)
     return chance(4) ? limits[draw(4)] : chance(20) ? draw(20) : draw(2000);
 }
 
+/* Mostly what a shop pays in a year; else nothing, about as much as some customers may have together, or so much that it
+   would wrap round to a small amount when added. */
+static size_t draw_top_up(void)
+{
+    switch (draw(10)) {
+    case 0:
+        return 0;
+    case 1:
+        return 1000000 * (1 + draw(4)) - 1 + draw(3);
+    case 2:
+        return 4294967295 - draw(4000);
+    default:
+        return draw(2000);
+    }
+}
+
 /* Nearly everybody joins, and most lines are opened. */
 static void add_joins(struct drawing *d)
 {
@@ -175,6 +191,17 @@ static void add_small_sales(struct drawing *d)
         add(d, 6, bench, customer, 1 + draw(chance(80) ? 1 : 3));
 }
 
+/* Top ups by halves, from more than all customers may have together: each that fits is granted, so whatever room the
+   book has is used up to the last unit, and one more is too many. Mostly they are one customer's, whose budget may so
+   pass what anybody may join with; the visits that follow go by it. */
+static void add_top_ups(struct drawing *d)
+{
+    uint8_t customer = any_customer();
+    for (size_t amount = 1 << 24; amount > 0; amount /= 2)
+        add(d, 10, 0, chance(95) ? customer : any_customer(), amount);
+    add(d, 10, 0, any_customer(), draw(2));
+}
+
 static uint32_t draw_amount(void)
 {
     switch (draw(4)) {
@@ -183,25 +210,22 @@ static uint32_t draw_amount(void)
     case 1:
         return (uint32_t)draw(36);
     case 2:
-        return (uint32_t)draw_budget();
+        return (uint32_t)(chance(50) ? draw_budget() : draw_top_up());
     default:
         return draw_word();
     }
 }
 
-static const uint8_t USES_BENCH[] = {0, 0, 1, 1, 0, 1, 1, 1, 1, 1};
-static const uint8_t USES_CUSTOMER[] = {0, 1, 0, 1, 1, 0, 1, 0, 0, 1};
-static const uint8_t USES_AMOUNT[] = {0, 1, 0, 0, 1, 1, 1, 0, 0, 0};
+static const uint8_t USES_BENCH[] = {0, 0, 1, 1, 0, 1, 1, 1, 1, 1, 0};
+static const uint8_t USES_CUSTOMER[] = {0, 1, 0, 1, 1, 0, 1, 0, 0, 1, 1};
+static const uint8_t USES_AMOUNT[] = {0, 1, 0, 0, 1, 1, 1, 0, 0, 0, 1};
 
-/* A well-formed entry of any parties, with numbers just past the hall's among them; then perhaps one field changed. */
-struct entry draw_entry(void)
+/* The entry, perhaps with one field changed. */
+static struct entry bent(struct entry entry)
 {
-    uint8_t kind = (uint8_t)(1 + draw(9));
-    struct entry entry = {kind, USES_BENCH[kind] ? (uint8_t)draw(9) : 0, USES_CUSTOMER[kind] ? (uint8_t)draw(17) : 0, 0,
-                          USES_AMOUNT[kind] ? draw_amount() : 0};
     switch (draw(12)) {
     case 0:
-        entry.kind = (uint8_t)(chance(50) ? draw(12) : draw(256));
+        entry.kind = (uint8_t)(chance(50) ? draw(13) : draw(256));
         break;
     case 1:
         entry.bench = (uint8_t)(chance(50) ? draw(10) : draw(256));
@@ -219,6 +243,14 @@ struct entry draw_entry(void)
     return entry;
 }
 
+/* A well-formed entry of any parties, with numbers just past the hall's among them; then perhaps one field changed. */
+struct entry draw_entry(void)
+{
+    uint8_t kind = (uint8_t)(1 + draw(10));
+    return bent((struct entry){kind, USES_BENCH[kind] ? (uint8_t)draw(9) : 0, USES_CUSTOMER[kind] ? (uint8_t)draw(17) : 0,
+                               0, USES_AMOUNT[kind] ? draw_amount() : 0});
+}
+
 static struct entry draw_garbage(void)
 {
     uint32_t word = draw_word();
@@ -234,16 +266,20 @@ void draw_tape(uint8_t *tape, size_t records, int joining)
         add_clears(&d);
     while (d.filled < records) {
         size_t scene = draw(100);
-        if (scene < 55)
+        if (scene < 53)
             add_visit(&d);
-        else if (scene < 80)
+        else if (scene < 78)
             add_authentications(&d);
-        else if (scene < 82)
+        else if (scene < 80)
             add_small_sales(&d);
-        else if (scene < 90)
+        else if (scene < 88)
             add(&d, 9, any_bench(), any_customer(), 0);
-        else if (scene < 92)
+        else if (scene < 90)
             add_join(&d);
+        else if (scene < 93)
+            add_entry(&d, bent((struct entry){10, 0, any_customer(), 0, (uint32_t)draw_top_up()}));
+        else if (scene < 94)
+            add_top_ups(&d);
         else
             add_entry(&d, chance(70) ? draw_entry() : draw_garbage());
     }
@@ -292,7 +328,7 @@ static size_t any_record(const uint32_t *book)
     }
 }
 
-/* The money up to its bound or one past it, by one view's amount; or amounts that would wrap round. */
+/* The money up to its bound, a little below it or one past it, by one view's amount; or amounts that would wrap round. */
 static void bend_money(uint32_t *book)
 {
     uint32_t *amount = &record_of(book, any_in_use(book, CUSTOMER_VIEWS, 24))[AMOUNT];
@@ -304,7 +340,7 @@ static void bend_money(uint32_t *book)
         joined += record_of(book, view)[IN_USE];
     }
     if (chance(80)) {
-        *amount += (uint32_t)(1000000 * joined - money + draw(2));
+        *amount += (uint32_t)(1000000 * joined - money + draw(2) - draw(chance(70) ? 1 : 4));
     } else if (chance(50)) {
         *amount -= (uint32_t)(money + draw(2));
     } else {
@@ -520,8 +556,19 @@ void bend_book(enum form form, const uint32_t *tokens, size_t n, uint32_t *book)
         bend_by_itself(form, book);
 }
 
+/* No count, flag or amount of such a book is one, and every sum of them would wrap round in 32 bits. */
+static void fill_book(uint32_t *book)
+{
+    for (size_t i = 0; i < GS_BOOK_WORDS; i++)
+        book[i] = 4294967295;
+}
+
 void spoil_book(const uint32_t *tokens, size_t n, uint32_t *book)
 {
+    if (chance(1)) {
+        fill_book(book);
+        return;
+    }
     uint32_t values[] = {0, 1, 2, 16, 17, 31, 32, 33, 1000000, 4294967295, any_token(tokens, n), draw_word()};
     size_t records[] = {0, draw(RECORDS), any_record(book), any_record(book)}, words[] = {draw(6), draw(6), draw(36), 35};
     uint32_t *word = record_of(book, records[draw(4)]) + words[draw(4)];

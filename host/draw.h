@@ -28,7 +28,7 @@ struct entry draw_entry(void);
 /* Changes one thing in a book so that it often stays sound, though no step might have done it. */
 void bend_book(enum form form, const uint32_t *tokens, size_t n, uint32_t *book);
 
-/* Changes one word. */
+/* Changes one word, or rarely every word to the highest number there is. */
 void spoil_book(const uint32_t *tokens, size_t n, uint32_t *book);
 
 void put_entry(uint8_t *part, struct entry entry);

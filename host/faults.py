@@ -87,8 +87,18 @@ FAULTS = [
     ),
     (
         "a record let pass: a clear with an amount",
-        "return kind == JOIN_CUSTOMER || kind == UPDATE || kind == STOCK || kind == SELL;",
-        "return kind == JOIN_CUSTOMER || kind == UPDATE || kind == STOCK || kind == SELL || kind == CLEAR;",
+        "return kind == JOIN_CUSTOMER || kind == UPDATE || kind == STOCK || kind == SELL || kind == TOP_UP;",
+        "return kind == JOIN_CUSTOMER || kind == UPDATE || kind == STOCK || kind == SELL || kind >= CLEAR;",
+    ),
+    (
+        "another bound: a top up judged by the customer's own budget and not by the total",
+        "(kind == TOP_UP && !money_fits(d->book, n))",
+        "(kind == TOP_UP && d->customer_view[AMOUNT] + n > MILLION)",
+    ),
+    (
+        "a bound missed by one: a top up that comes just up to it is refused",
+        "!money_fits(d->book, n)",
+        "!money_fits(d->book, n + 1)",
     ),
     (
         "a place that wraps: the reader far past the end",

@@ -1,6 +1,6 @@
-/* The ledger of document 01 in the plainest C, for the proved library to be held against: easy to check against the
-   rules, and sharing no code with the library. It takes every input, so nothing is used as a count or a place before it
-   is known to be one. Verdict numbers stand in the code as they stand in the document's table. */
+/* The ledger of documents 01 and 02 in the plainest C, for the proved library to be held against: easy to check against
+   the rules, and sharing no code with the library. It takes every input, so nothing is used as a count or a place before
+   it is known to be one. Verdict numbers stand in the code as they stand in the documents. */
 #include "ledger.h"
 
 enum { RECORD = 36, RECORDS = 177, WORDS = RECORD * RECORDS, BYTES = 4 * WORDS };
@@ -12,7 +12,7 @@ enum { IN_USE, AMOUNT, COUNT, SALES, CELL };
 /* The first record of each sort. */
 enum { DESK = 0, CARNETS = 1, CUSTOMER_VIEWS = 17, BENCH_VIEWS = 33, TILLS = 41, LINES = 49 };
 
-enum { JOIN_CUSTOMER = 1, JOIN_BENCH, OPEN, UPDATE, STOCK, SELL, BENCH_AUTHENTICATES, DESK_AUTHENTICATES, CLEAR };
+enum { JOIN_CUSTOMER = 1, JOIN_BENCH, OPEN, UPDATE, STOCK, SELL, BENCH_AUTHENTICATES, DESK_AUTHENTICATES, CLEAR, TOP_UP };
 
 enum form { PLAIN, SLIP };
 
@@ -147,7 +147,9 @@ static int none_twice(const uint32_t *book)
     return 1;
 }
 
-static int money_good(const uint32_t *book)
+/* Whether the book's money, and so much more, keeps to the bound. It is summed in 64 bits, which forty words of 32 can't
+   fill, so that no amount wraps round to a small one. */
+static int money_fits(const uint32_t *book, uint64_t more)
 {
     uint64_t money = 0, joined = 0;
     for (size_t view = CUSTOMER_VIEWS; view < BENCH_VIEWS; view++) {
@@ -156,14 +158,14 @@ static int money_good(const uint32_t *book)
     }
     for (size_t view = BENCH_VIEWS; view < TILLS; view++)
         money += book[at(view) + AMOUNT];
-    return money <= MILLION * joined;
+    return money + more <= MILLION * joined;
 }
 
 /* The records come first: what follows goes by their counts. */
 static int plain_good(const uint32_t *tokens, size_t n, const uint32_t *book)
 {
     return records_good(book) && desk_good(book, n) && parties_good(book) && all_dealt(tokens, book) && none_twice(book)
-           && money_good(book);
+           && money_fits(book, 0);
 }
 
 /* ---- slips ---- */
@@ -249,23 +251,23 @@ struct entry {
 
 static int uses_bench(uint8_t kind)
 {
-    return kind != JOIN_CUSTOMER && kind != UPDATE;
+    return kind != JOIN_CUSTOMER && kind != UPDATE && kind != TOP_UP;
 }
 
 static int uses_customer(uint8_t kind)
 {
-    return kind == JOIN_CUSTOMER || kind == OPEN || kind == UPDATE || kind == SELL || kind == CLEAR;
+    return kind == JOIN_CUSTOMER || kind == OPEN || kind == UPDATE || kind == SELL || kind == CLEAR || kind == TOP_UP;
 }
 
 static int uses_amount(uint8_t kind)
 {
-    return kind == JOIN_CUSTOMER || kind == UPDATE || kind == STOCK || kind == SELL;
+    return kind == JOIN_CUSTOMER || kind == UPDATE || kind == STOCK || kind == SELL || kind == TOP_UP;
 }
 
 /* 2, 3 or 0. */
 static uint8_t judge_entry(struct entry e)
 {
-    if (e.kind < 1 || e.kind > 9 || e.zero != 0)
+    if (e.kind < JOIN_CUSTOMER || e.kind > TOP_UP || e.zero != 0)
         return 2;
     if ((!uses_bench(e.kind) && e.bench) || (!uses_customer(e.kind) && e.customer) || (!uses_amount(e.kind) && e.amount))
         return 2;
@@ -297,12 +299,13 @@ struct desk {
     enum form form;
     const uint32_t *tokens;
     size_t n;
+    const uint32_t *book; /* whole, for what is asked of all records together */
     uint32_t *own, *carnet, *customer_view, *bench_view, *till, *line;
 };
 
 static struct desk desk_of(enum form form, const uint32_t *tokens, size_t n, uint32_t *book, struct entry e)
 {
-    return (struct desk){form, tokens, n, book + at(DESK), book + at(CARNETS + e.customer),
+    return (struct desk){form, tokens, n, book, book + at(DESK), book + at(CARNETS + e.customer),
                          book + at(CUSTOMER_VIEWS + e.customer), book + at(BENCH_VIEWS + e.bench),
                          book + at(TILLS + e.bench), book + at(line_of(e.bench, e.customer))};
 }
@@ -340,7 +343,8 @@ static uint8_t judge_step(const struct desk *d, uint8_t kind, uint64_t n)
         return 5;
     if ((kind == SELL || kind == CLEAR) && !d->line[IN_USE])
         return 6;
-    if ((kind == JOIN_CUSTOMER && n > MILLION) || (kind == STOCK && n > 32))
+    if ((kind == JOIN_CUSTOMER && n > MILLION) || (kind == STOCK && n > 32)
+        || (kind == TOP_UP && !money_fits(d->book, n)))
         return 7;
     if (kind == UPDATE && n > d->customer_view[AMOUNT])
         return 8;
@@ -476,6 +480,9 @@ static void do_step(const struct desk *d, uint8_t kind, uint32_t n)
         break;
     case CLEAR:
         clear(d);
+        break;
+    case TOP_UP:
+        d->customer_view[AMOUNT] += n;
         break;
     }
 }

@@ -1,5 +1,5 @@
-/* A ledger by the rules of document 01, written by hand. Each function does what its namesake in include/gingerstall.h is
-   said to do. */
+/* A ledger by the rules of documents 01 and 02, written by hand. Each function does what its namesake in
+   include/gingerstall.h is said to do. */
 #ifndef LEDGER_H
 #define LEDGER_H
 

@@ -22,7 +22,7 @@ UPDATE, SELL, CLEAR = 4, 6, 9  # the kinds that change what waits in a line
 VERDICTS = {
     1: ("there is no good token list, so that no step was done",
         "Take the last good copy of tokens.rec, and walk again."),
-    2: ("this is no record of the nine kinds, or a field that the kind doesn't use isn't zero",
+    2: ("this is no record of the ten kinds, or a field that the kind doesn't use isn't zero",
         "Whoever wrote the tape has a fault; tools/tape read shows such a step as a record."),
     3: ("there is no such bench (0 to 7) or customer (0 to 15)",
         "Correct the number."),
@@ -32,10 +32,11 @@ VERDICTS = {
         "Let it join, then repeat the step."),
     6: ("the bench has no line for this customer",
         "Open it, then repeat the step."),
-    7: ("a budget above 1,000,000 on joining, or a stock above 32",
-        "Ask for less."),
+    7: ("a budget above 1,000,000 on joining, a stock above 32, or a top up that would bring the hall's money above "
+        "1,000,000 for each joined customer",
+        "Ask for less. Another customer who joins with less than 1,000,000 leaves room for a top up."),
     8: ("the update asks for more than the budget that is left",
-        "Ask for at most the budget."),
+        "Top up the budget, or ask for less."),
     9: ("the desk's view of the customer would hold more than 32",
         "Have the benches clear what they took, or ask for less."),
     10: ("the list has too few tokens left to refresh the carnet and add to it",

@@ -1,11 +1,10 @@
 -- A sound slip book and its opened book: step for step the same verdict, and the slip book stays sound and opens to the plain one.
-use mathlib.Core.Path.{_≡_, refl, sym, ap, _∙_, fun-ext}
+use mathlib.Core.Path.{_≡_, refl, sym, ap, _∙_}
 use mathlib.Core.Logic.{⊎-elim}
 use Rattle.rules.specs.declared.Hall.{Hall}
 use Rattle.rules.specs.declared.Entry.{Entry}
-use Rattle.rules.specs.Lists.{ℕ, _+_, true, List, [], _∷_, sumOf}
-use Rattle.rules.specs.Hall.{views, customerViews}
-use Rattle.rules.specs.Records.{amount, count, recordAt}
+use Rattle.rules.specs.Lists.{ℕ, _+_, true, List, [], _∷_}
+use Rattle.rules.specs.Records.{recordAt}
 use Rattle.rules.specs.Sound.{total}
 use Rattle.rules.specs.Form.{plain}
 use Rattle.rules.specs.Slips.{openBook, slipSound, slip}
@@ -19,7 +18,7 @@ use Rattle.laws.proofs.ReflectSlips.{SlipSound, slip-sound-facts, slip-sound-te
 use Rattle.rules.proofs.Granted.{granted-good, granted-kind}
 use Rattle.keeps.proofs.Fits.{fits, changes-apart}
 use Rattle.keeps.proofs.Keeps.{brings, plain-keeps, plain-money, Money, along-sound}
-use Rattle.agree.proofs.SameVerdict.{same-verdict, word-amount, word-count}
+use Rattle.agree.proofs.SameVerdict.{same-total, same-verdict}
 use Rattle.agree.proofs.OpenChanges.{fine-opens, fine-slip-sound}
 use Rattle.agree.proofs.SameStep.{slip-fine, slip-regular}
 
@@ -47,12 +46,6 @@ module _ (h : Hall) (ts b : List ℕ) (e : Entry) (v : verdict slip h ts b e ≡
       (fine-slip-sound h ts b ok (slip-fine h ts b e v .0) _ _ whole
       (changes-apart slip h ts b e (e .kind) (granted-kind slip h ts b e v)) (slip-fine h ts b e v .1)
       (plain-keeps h ts (openBook h ts b) e v′))
-
--- a slip book has the money of the book it opens to
-same-total : (h : Hall) (ts b : List ℕ) → SlipSound h ts b → total h (λ k. recordAt k (openBook h ts b)) ≡ total h (λ k. recordAt k b)
-same-total h ts b ok =
-    ap (λ (f : ℕ → ℕ). sumOf f (views h) + sumOf (λ k. count (recordAt k (openBook h ts b))) (customerViews h)) (fun-ext (word-amount h ts b ok))
-    ∙ ap (λ (f : ℕ → ℕ). sumOf (λ k. amount (recordAt k b)) (views h) + sumOf f (customerViews h)) (fun-ext (word-count h ts b ok))
 
 pub slip-money : Money slip
 slip-money h ts b e v =

@@ -11,7 +11,7 @@ use Rattle.rules.specs.Records.{words, inUse, amount, count, sales, held, fille
 use Rattle.rules.specs.Tape.{Sell, kindOf, usesBench, usesCustomer}
 use Rattle.rules.specs.Form.{plain}
 use Rattle.rules.specs.Slips.{isRun, slipTokens, slipPairs, slipOf, slipLineGood, slipSum, slipsGood, openSlip, openSlips, openedLine, openBook, slip}
-use Rattle.rules.specs.Steps.{dealt, left, fresh, joining, dealing, updating, stocking, soldLine, selling, authenticating, settling, clearing, changes, theCarnet, theView, theLine}
+use Rattle.rules.specs.Steps.{dealt, left, fresh, joining, dealing, updating, stocking, soldLine, selling, authenticating, settling, clearing, toppingUp, changes, theCarnet, theView, theLine}
 use Rattle.rules.specs.Verdicts.{verdict}
 use Rattle.rules.proofs.Stepping.{update-reads}
 use Rattle.laws.proofs.Blocks.{block-long}
@@ -107,6 +107,16 @@ module _ (h : Hall) (ts b : List ℕ) (e : Entry) (ok : SlipSound h ts b) where
               before (number h (BenchView (e .bench))) (omega arith),
               line-tokens h ts b ok L (omega arith) (inside-below h (Line (e .bench) (e .customer)) (m, c)),
             );
+      }
+
+  pub tops-up : e .customer < h .customers → SlipFine h ts b (dealt b) (toppingUp h b e) (toppingUp h o e)
+  unfolding toppingUp
+  tops-up c =
+      record {
+        deals = omega arith;
+        desk = refl;
+        new = (tt, tt);
+        opens = rw (before (number h (View (e .customer))) (omega arith));
       }
 
 -- ---- the sale
@@ -214,6 +224,7 @@ module _ (h : Hall) (ts b : List ℕ) (e : Entry) (v : verdict slip h ts b e ≡
         bench-authenticates = λ q. (_, authenticates h ts b e ok (bench 7 q refl));
         desk-authenticates = λ q. (_, authenticates h ts b e ok (bench 8 q refl));
         clear = λ q. (_, clears h ts b e ok (bench 9 q refl) (customer 9 q refl));
+        top-up = λ q. (_, tops-up h ts b e ok (customer 10 q refl));
       }
       (e .kind) (granted-kind slip h ts b e v) refl
 

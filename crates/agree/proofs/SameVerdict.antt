@@ -1,15 +1,16 @@
 -- A sound slip book and its opened book get the same verdict.
-use mathlib.Core.Path.{_≡_, refl, ap, _∙_}
+use mathlib.Core.Path.{_≡_, refl, ap, _∙_, fun-ext}
 use Prim.Native.Nat.{_≤_, _<_}
 use native.Mathlib.Omega.{arith}
 use borrow.Author.Tests.{eqb-true, not-false}
 use Rattle.rules.specs.declared.Hall.{Hall}
 use Rattle.rules.specs.declared.Entry.{Entry}
-use Rattle.rules.specs.Lists.{ℕ, Bool, true, false, not, _&&_, _||_, eqb, List, _∷_, length, drop, getD, occ, isIn, every}
-use Rattle.rules.specs.Hall.{mostHeld, Carnet, View, BenchView, Till, Line, number, records}
+use Rattle.rules.specs.Lists.{ℕ, _+_, _*_, Bool, true, false, not, _&&_, _||_, eqb, List, _∷_, length, drop, getD, occ, isIn, every, sumOf}
+use Rattle.rules.specs.Hall.{mostHeld, mostBudget, Carnet, View, BenchView, Till, Line, number, records, views, customerViews}
 use Rattle.rules.specs.Answers.{Rule, _⇐_, first}
 use Rattle.rules.specs.Records.{inUse, amount, count, sales, cells, held, recordAt}
 use Rattle.rules.specs.Tape.{BenchAuthenticates, DeskAuthenticates, Clear, kindOf, is, usesBench, usesCustomer, wellFormed, inHall, entryRules}
+use Rattle.rules.specs.Sound.{total, mostTotal}
 use Rattle.rules.specs.Form.{plain}
 use Rattle.rules.specs.Slips.{slipTokens, openBook, slipSound, slip}
 use Rattle.rules.specs.Steps.{dealt, theView, theBenchView, theTill, theLine}
@@ -55,6 +56,15 @@ module _ (h : Hall) (ts b : List ℕ) (ok : SlipSound h ts b) where
 
   pub word-sales : (k : ℕ) → sales (recordAt k o) ≡ sales (recordAt k b)
   word-sales = open-word h ts b (ok .long) sales (opened-sales ts)
+
+  -- so its money is the opened book's, and what may be there
+  pub same-total : total h (λ k. recordAt k o) ≡ total h (λ k. recordAt k b)
+  same-total =
+      ap (λ (f : ℕ → ℕ). sumOf f (views h) + sumOf (λ k. count (recordAt k o)) (customerViews h)) (fun-ext word-amount)
+      ∙ ap (λ (f : ℕ → ℕ). sumOf (λ k. amount (recordAt k b)) (views h) + sumOf f (customerViews h)) (fun-ext word-count)
+
+  pub same-most : mostTotal h (λ k. recordAt k o) ≡ mostTotal h (λ k. recordAt k b)
+  same-most = ap (λ (f : ℕ → ℕ). mostBudget * sumOf f (customerViews h)) (fun-ext word-use)
 
   pub dealt-small : dealt b ≤ length ts
   dealt-small = omega (arith, word-amount 0, dealt-few h ts o opened-book)
@@ -115,6 +125,8 @@ module _ (h : Hall) (ts b : List ℕ) (e : Entry) (good : slipSound h ts b ≡ t
         word-sales h ts b ok (number h (Line (e .bench) (e .customer))),
         word-count h ts b ok (number h (Till (e .bench))),
         word-count h ts b ok (number h (BenchView (e .bench))),
+        same-total h ts b ok,
+        same-most h ts b ok,
         same-first p,
         same-clear p,
       )

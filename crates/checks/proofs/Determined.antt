@@ -10,6 +10,7 @@ use Rattle.checks.proofs.line.Reads as line-call
 use Rattle.checks.proofs.sale.Reads as sale-call
 use Rattle.checks.proofs.clear.Reads as clear-call
 use Rattle.checks.proofs.authenticate.Reads as authenticate-call
+use Rattle.checks.proofs.top_up.Reads as top-up-call
 
 join-customer-determined : (κs : _) (a : _) → Determined (join-customer-call.Learnt κs a) (λ z e. z)
 join-customer-determined κs a = determined _ _ _ (λ z e p. p)
@@ -37,3 +38,6 @@ clear-determined κs a = determined _ _ _ (λ z e p. p)
 
 authenticate-determined : (κs : _) (a : _) → Determined (authenticate-call.Learnt κs a) (λ z e. z)
 authenticate-determined κs a = determined _ _ _ (λ z e p. p)
+
+top-up-determined : (κs : _) (a : _) → Determined (top-up-call.Learnt κs a) (λ z e. z)
+top-up-determined κs a = determined _ _ _ (λ z e p. p)

@@ -2,7 +2,7 @@
 // words that the kind's tests read, and takes any words.
 ghost use mathlib.Core.Path.{_≡_};
 ghost use Rattle.rules.specs.Answers.{first};
-ghost use Rattle.kinds.specs.Chains.{joinCustomerRules, joinBenchRules, openRules, updateRules, stockRules, lineRules, saleRules, clearRules, authenticateRules};
+ghost use Rattle.kinds.specs.Chains.{joinCustomerRules, joinBenchRules, openRules, updateRules, stockRules, lineRules, saleRules, clearRules, authenticateRules, topUpRules};
 
 pub fn join_customer(carnet: u32, budget: u32) -> u8
     ensures { λ r. ⌜ r ≡ first (joinCustomerRules carnet budget) ⌝ }
@@ -126,6 +126,22 @@ pub fn authenticate(used: u32, till: u32, view: u32, mine: u32, theirs: u32) -> 
     }
     if mine != theirs {
         return 14;
+    }
+    0
+}
+
+// Any words may be told, so `total + n`, which may not fit, is never formed.
+pub fn top_up(view: u32, total: u64, most: u64, n: u32) -> u8
+    ensures { λ r. ⌜ r ≡ first (topUpRules view total most n) ⌝ }
+{
+    if view != 1 {
+        return 5;
+    }
+    if most < total {
+        return 7;
+    }
+    if most - total < n as u64 {
+        return 7;
     }
     0
 }

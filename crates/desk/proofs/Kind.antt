@@ -6,7 +6,7 @@ use Rattle.rules.specs.declared.Hall.{Hall}
 use Rattle.rules.specs.declared.Entry.{Entry}
 use Rattle.rules.specs.Lists.{ℕ, true, List, occ}
 use Rattle.rules.specs.Answers.{first, Answer, Gives}
-use Rattle.rules.specs.Tape.{JoinCustomer, JoinBench, OpenLine, Update, Stock, Sell, BenchAuthenticates, DeskAuthenticates, Clear, kindOf, usesBench, entryRules}
+use Rattle.rules.specs.Tape.{JoinCustomer, JoinBench, OpenLine, Update, Stock, Sell, BenchAuthenticates, DeskAuthenticates, Clear, TopUp, kindOf, usesBench, entryRules}
 use Rattle.rules.specs.Form.{Form}
 use Rattle.rules.specs.Steps.{effect}
 use Rattle.rules.specs.Verdicts.{table, step}
@@ -30,6 +30,7 @@ pub record Other (k : ℕ) : Type 0 where
   pub stock : k ≡ kindOf Stock → ⊥
   pub sell : k ≡ kindOf Sell → ⊥
   pub clear : k ≡ kindOf Clear → ⊥
+  pub top-up : k ≡ kindOf TopUp → ⊥
 
 abbrev Authenticates : ℕ → Type 0
 Authenticates k = (k ≡ kindOf BenchAuthenticates) ⊎ (k ≡ kindOf DeskAuthenticates)
@@ -47,6 +48,7 @@ other-authenticates =
       bench-authenticates = λ o. inl refl;
       desk-authenticates = λ o. inr refl;
       clear = λ o. absurd (o .clear refl);
+      top-up = λ o. absurd (o .top-up refl);
     }
 
 module _ (f : Form) (h : Hall) (ts b : List ℕ) (e : Entry) where

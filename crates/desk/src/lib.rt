@@ -1,6 +1,6 @@
 // The desk's book: a step, and a run over a whole tape, in either form.
 // A run asks once whether the book is sound. From then on each step looks at the desk's own record and at those that it
-// names, and at no others: that a step leaves a sound book sound is a theorem.
+// names, a top up also at what stands in the views, and at no others: that a step leaves a sound book sound is a theorem.
 ghost use mathlib.Core.Path.{_≡_};
 ghost use Prim.Native.Nat.{_*_, _≤_};
 ghost use lib.ListN.{length};
@@ -53,6 +53,9 @@ fn step_kind(form: Form, h: Hall, tokens: &[u32], book: &mut [u32], e: Entry) ->
     }
     if e.kind == 9 {
         return sales::clear(form, h, tokens, book, e);
+    }
+    if e.kind == 10 {
+        return steps::top_up(h, book, e);
     }
     steps::authenticate(h, book, e)
 }

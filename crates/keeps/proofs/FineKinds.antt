@@ -9,12 +9,13 @@ use Rattle.rules.specs.declared.Entry.{Entry}
 use Rattle.rules.specs.Lists.{ℕ, _+_, _-_, min, Bool, true, false, cond, _&&_, eqb, List, [], _∷_, _++_, length, take, drop, every, occ, isIn, allDifferent, without}
 use Rattle.rules.specs.Hall.{mostHeld, mostSales, mostBudget, Place, Desk, Carnet, View, BenchView, Till, Line, number, spendable, views}
 use Rattle.rules.specs.Records.{inUse, amount, count, sales, held, filled, made, withAmount, recordAt}
+use Rattle.rules.specs.Sound.{total, mostTotal}
 use Rattle.rules.specs.Form.{plain}
-use Rattle.rules.specs.Steps.{dealt, left, fresh, _≔_, joining, dealing, theCarnet, theView, theBenchView, theTill, theLine, updating, stocking, soldLine, selling, authenticating, settling, clearing}
+use Rattle.rules.specs.Steps.{dealt, left, fresh, _≔_, joining, dealing, theCarnet, theView, theBenchView, theTill, theLine, updating, stocking, soldLine, selling, authenticating, settling, clearing, toppingUp}
 use Rattle.laws.proofs.Occurrences.{occ-append, occ-split, different-once, once-different}
 use Rattle.laws.proofs.Sums.{part-of-sum}
 use Rattle.laws.proofs.Tokens.{every-append, every-take, every-drop, every-without, without-occ, without-length}
-use Rattle.laws.proofs.Made.{made-use, made-amount, made-count, made-held, amount-use, amount-is, amount-held}
+use Rattle.laws.proofs.Made.{made-use, made-amount, made-count, made-held, amount-use, amount-is, amount-count, amount-held}
 use Rattle.laws.proofs.Reflect.{Parties, Book}
 use Rattle.laws.proofs.Asked.{record-shaped, no-use, LineGood}
 use Rattle.laws.proofs.Books.{Known, held-few, full-at, facts-at, known-at, dealt-few, desk-used, till-different, line-at, fresh-different, fresh-known, fresh-long, record-more}
@@ -300,4 +301,24 @@ module _ (h : Hall) (ts b : List ℕ) (e : Entry) (ok : Book h ts b) where
         viewed = λ t. simp (made-held, amount-held) (omega (arith, without-occ t X Y));
         money = simp (made-amount, made-count, balance) (omega arith);
         within = simp made-use (omega (arith, ok .1 .money));
+      }
+
+  pub top-up-fine : c < h .customers → used (View c) ≡ 1 → total h (λ k. recordAt k b) + e .amount ≤ mostTotal h (λ k. recordAt k b)
+      → Each (Fit h) (toppingUp h b e) → Fine h ts b (dealt b) 0 (e .amount) (toppingUp h b e)
+  unfolding toppingUp
+  top-up-fine i there room fits =
+      let raised : amount (withAmount (amount (theView h b e) + e .amount) (theView h b e)) ≡ amount (theView h b e) + e .amount =
+      amount-is _ (theView h b e) (long (View c) i) in
+      record {
+        deals = omega arith;
+        desk = refl;
+        new = (
+          view-amount h ts (dealt b) (number h (View c)) _ (theView h b e) there (ok .1 .each (number h (View c)) (inside-below h (View c) i)) (omega arith) (omega arith),
+          tt,
+        );
+        together = together-kept h (at h b) (toppingUp h b e) fits old (amount-use _ (theView h b e), tt);
+        spent = λ t. omega arith;
+        viewed = λ t. simp amount-held (omega arith);
+        money = simp (raised, amount-count) (omega arith);
+        within = simp amount-use (omega arith);
       }

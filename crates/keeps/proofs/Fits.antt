@@ -8,9 +8,9 @@ use Rattle.rules.specs.declared.Entry.{Entry}
 use Rattle.rules.specs.Lists.{ℕ, _*_, min, true, List, [], _++_, length, take, drop, occ, without}
 use Rattle.rules.specs.Hall.{mostHeld, Place, Desk, Carnet, View, BenchView, Till, Line, number, records}
 use Rattle.rules.specs.Records.{words, held, made, withAmount, recordAt}
-use Rattle.rules.specs.Tape.{Sell, Clear, kindOf, usesBench, usesCustomer}
+use Rattle.rules.specs.Tape.{Sell, Clear, TopUp, kindOf, usesBench, usesCustomer}
 use Rattle.rules.specs.Form.{Form, plain}
-use Rattle.rules.specs.Steps.{left, fresh, joining, dealing, updating, stocking, soldLine, selling, authenticating, settling, clearing, changes, theCarnet, theView, theLine}
+use Rattle.rules.specs.Steps.{left, fresh, joining, dealing, updating, stocking, soldLine, selling, authenticating, settling, clearing, toppingUp, changes, theCarnet, theView, theLine}
 use Rattle.rules.specs.Verdicts.{verdict}
 use Rattle.laws.proofs.Tokens.{without-short}
 use Rattle.laws.proofs.Made.{filled-long, made-long, with-long}
@@ -24,7 +24,7 @@ use Rattle.rules.proofs.Granted.{granted-good, granted-kind, bench-inside, cust
 
 module _ (f : Form) (h : Hall) (ts b : List ℕ) (e : Entry) where
   pub changes-apart : (k : ℕ) → IsKind k → apart (changes h b e f ts k) ≡ true
-  unfolding changes joining dealing updating stocking selling authenticating settling clearing
+  unfolding changes joining dealing updating stocking selling authenticating settling clearing toppingUp
   changes-apart =
       by-kind (λ k. apart (changes h b e f ts k) ≡ true)
       record {
@@ -37,6 +37,7 @@ module _ (f : Form) (h : Hall) (ts b : List ℕ) (e : Entry) where
         bench-authenticates = refl;
         desk-authenticates = refl;
         clear = refl;
+        top-up = refl;
       }
 
   module _ (v : verdict f h ts b e ≡ 0) where
@@ -68,8 +69,12 @@ module _ (f : Form) (h : Hall) (ts b : List ℕ) (e : Entry) where
     unfolding occ
     clear-bench k = its-bench (ap usesBench k, refl)
 
+    pub top-up-customer : e .kind ≡ kindOf TopUp → Inside h (View (e .customer))
+    unfolding occ
+    top-up-customer k = its-customer (ap usesCustomer k, refl)
+
     changes-long : length b ≡ words * records h → (e .kind ≡ kindOf Sell → length (soldLine h b e f) ≡ words) → Each (λ p r. length r ≡ words) (changes h b e f ts (e .kind))
-    unfolding changes joining dealing updating stocking selling authenticating settling clearing
+    unfolding changes joining dealing updating stocking selling authenticating settling clearing toppingUp
     changes-long long sold =
         let same : (a : ℕ) (p : Place) → Inside h p → length (withAmount a (at h b p)) ≡ words =
         λ a p i. with-long 1 a (at h b p) ∙ at-long h b long p i in
@@ -90,6 +95,7 @@ module _ (f : Form) (h : Hall) (ts b : List ℕ) (e : Entry) where
                 made-long _ 0 (without t (held (theView h b e))) (omega (arith, without-short t (held (theView h b e)), held-few (number h (View (e .customer))) b)),
                 (same _ (BenchView (e .bench)) (clear-bench k), (none 0, tt)),
               );
+          top-up = λ k. (same _ (View (e .customer)) (top-up-customer k), tt);
         }
         (e .kind) (granted-kind f h ts b e v) refl
 

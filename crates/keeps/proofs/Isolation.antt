@@ -1,20 +1,24 @@
--- A step leaves every record of a party that it doesn't name, word for word: no bench is touched by another's step.
-use mathlib.Core.Path.{_≡_, refl}
+-- A step leaves every record of a party that it doesn't name, word for word: no bench is touched by another's step. A top up
+-- leaves every word but one.
+use mathlib.Core.Path.{_≡_, refl, sym, ap, _∙_}
 use Prim.Native.Nat.{_<_}
+use native.Mathlib.Omega.{arith}
 use Rattle.rules.specs.declared.Hall.{Hall}
 use Rattle.rules.specs.declared.Entry.{Entry}
-use Rattle.rules.specs.Lists.{ℕ, true, List}
-use Rattle.rules.specs.Hall.{Place, BenchView, Till, Line}
-use Rattle.rules.specs.Tape.{usesBench}
+use Rattle.rules.specs.Lists.{ℕ, _+_, _*_, true, List}
+use Rattle.rules.specs.Hall.{Place, View, BenchView, Till, Line, number}
+use Rattle.rules.specs.Records.{words, amount, withWord}
+use Rattle.rules.specs.Tape.{TopUp, kindOf, usesBench}
 use Rattle.rules.specs.Form.{Form}
-use Rattle.rules.specs.Steps.{changes, effect}
-use Rattle.rules.specs.Verdicts.{step}
-use Rattle.rules.proofs.Stepping.{step-cases}
-use Rattle.laws.proofs.Places.{Inside}
+use Rattle.rules.specs.Steps.{putAll, theView, toppingUp, changes, effect}
+use Rattle.rules.specs.Verdicts.{verdict, step}
+use Rattle.rules.proofs.Stepping.{step-granted, step-verdict, step-cases}
+use Rattle.laws.proofs.Blocks.{block-word}
+use Rattle.laws.proofs.Places.{Inside, inside-below}
 use Rattle.laws.proofs.Changes.{at, all-outside}
 use Rattle.rules.proofs.Granted.{granted-good, granted-kind}
 use Rattle.rules.proofs.Named.{Named, changes-named}
-use Rattle.keeps.proofs.Fits.{Regular, fits}
+use Rattle.keeps.proofs.Fits.{Regular, fits, top-up-customer}
 
 -- bench m's till, desk's view and lines are the same in two books
 pub record SameBench (h : Hall) (b b′ : List ℕ) (m : ℕ) : Type 0 where
@@ -42,3 +46,14 @@ module _ (f : Form) (regular : Regular f) (h : Hall) (ts b : List ℕ) (e : Entr
         view = isolation (BenchView m) i (λ n. other (n .0) (n .1));
         lines = λ c j. isolation (Line m c) (i, j) (λ n. other (n .0 .0) (n .0 .1));
       }
+
+  -- granted, a top up writes the budget's word and no other
+  pub one-word : verdict f h ts b e ≡ 0 → e .kind ≡ kindOf TopUp
+      → step f h ts b e .cells ≡ withWord (words * number h (View (e .customer)) + 1) (amount (theView h b e) + e .amount) b
+  unfolding effect changes toppingUp putAll withWord
+  one-word v k =
+      let i : Inside h (View (e .customer)) = top-up-customer f h ts b e v k in
+      step-granted f h ts b e (step-verdict f h ts b e ∙ v)
+      ∙ ap (λ (n : ℕ). putAll h (changes h b e f ts n) b) k
+      ∙ sym (block-word words (number h (View (e .customer))) 1 _ b
+      (omega (arith, regular .long h ts b (granted-good f h ts b e v), inside-below h (View (e .customer)) i)) (omega arith))

@@ -8,7 +8,7 @@ use Rattle.rules.specs.declared.Entry.{Entry}
 use Rattle.rules.specs.Lists.{ℕ, _*_, true, _||_, eqb, List, [], _∷_, _++_, length, occ, _+_, cond}
 use Rattle.rules.specs.Hall.{Carnet, View, Till, BenchView, Line, number}
 use Rattle.rules.specs.Records.{inUse, recordAt}
-use Rattle.rules.specs.Tape.{JoinCustomer, JoinBench, OpenLine, Sell, Clear, kindOf, usesBench, usesCustomer, entries}
+use Rattle.rules.specs.Tape.{JoinCustomer, JoinBench, OpenLine, Sell, Clear, TopUp, kindOf, usesBench, usesCustomer, entries}
 use Rattle.rules.specs.Form.{Form, plain}
 use Rattle.rules.specs.Steps.{changes, effect}
 use Rattle.rules.specs.Sound.{total, sound}
@@ -22,14 +22,14 @@ use Rattle.laws.proofs.Places.{inside-below}
 use Rattle.rules.proofs.Named.{Each}
 use Rattle.laws.proofs.Changes.{Fit, apart}
 use Rattle.rules.proofs.ByKind.{by-kind}
-use Rattle.rules.proofs.Granted.{granted-good, granted-kind, bench-inside, customer-inside, new-customer, new-bench, has-bench, has-customer, has-line, join-budget, stock-few, update-budget, update-room, update-left, sell-enough, sell-room, sell-few, clear-lives}
+use Rattle.rules.proofs.Granted.{granted-good, granted-kind, bench-inside, customer-inside, new-customer, new-bench, has-bench, has-customer, has-line, join-budget, stock-few, update-budget, update-room, update-left, sell-enough, sell-room, sell-few, clear-lives, top-up-within}
 use Rattle.keeps.proofs.Fits.{changes-apart, fits, plain-regular}
 use Rattle.keeps.proofs.Fine.{Fine, fine-money, fine-keeps}
-use Rattle.keeps.proofs.FineKinds.{join-customer-fine, join-bench-fine, open-line-fine, update-fine, stock-fine, sell-fine, authenticate-fine, clear-fine}
+use Rattle.keeps.proofs.FineKinds.{join-customer-fine, join-bench-fine, open-line-fine, update-fine, stock-fine, sell-fine, authenticate-fine, clear-fine, top-up-fine}
 
--- what a granted step of kind k brings into the hall: the money of who joins
+-- what a granted step of kind k brings into the hall: the money of who joins, and what is added later
 abbrev pub brings : ℕ → Entry → ℕ
-brings k e = cond (eqb k (kindOf JoinCustomer)) (e .amount) 0
+brings k e = cond (eqb k (kindOf JoinCustomer) || eqb k (kindOf TopUp)) (e .amount) 0
 
 -- ---- the plain book
 module _ (h : Hall) (ts b : List ℕ) (e : Entry) (v : verdict plain h ts b e ≡ 0) where
@@ -91,6 +91,7 @@ module _ (h : Hall) (ts b : List ℕ) (e : Entry) (v : verdict plain h ts b e �
         desk-authenticates = λ q w. (_, (_, authenticate-fine h ts b e ok (bench 8 q refl) (hasB 8 q (omega arith) refl) w));
         clear = λ q w.
             (_, (_, clear-fine h ts b e ok (bench 9 q refl) (customer 9 q refl) (hasV 9 q (omega arith) refl) (hasB 9 q (omega arith) refl) (hasL 9 q refl) (clear-lives plain h ts b e v q) w));
+        top-up = λ q w. (_, (_, top-up-fine h ts b e ok (customer 10 q refl) (hasV 10 q (omega arith) refl) (top-up-within plain h ts b e v q) w));
       }
       (e .kind) (granted-kind plain h ts b e v) refl
 

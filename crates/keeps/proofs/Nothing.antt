@@ -1,4 +1,4 @@
--- A sale of 0, and a clear of an empty line, change no word of a sound book.
+-- A sale of 0, a clear of an empty line and a top up of 0 change no word of a sound book.
 use mathlib.Core.Path.{_≡_, refl, sym, ap, _∙_}
 use mathlib.Core.Logic.{⊎-elim}
 use Prim.Native.Nat.{_≤_, _<_}
@@ -9,9 +9,9 @@ use Rattle.rules.specs.declared.Entry.{Entry}
 use Rattle.rules.specs.Lists.{ℕ, _+_, min, true, _&&_, _||_, leb, eqb, List, [], _∷_, _++_, length, take, drop, occ, without}
 use Rattle.rules.specs.Hall.{Place, Carnet, View, Till, Line, number, records}
 use Rattle.rules.specs.Records.{words, inUse, amount, count, sales, held, filled, made, withAmount, recordAt, put}
-use Rattle.rules.specs.Tape.{Sell, Clear, kindOf, usesBench, usesCustomer}
+use Rattle.rules.specs.Tape.{Sell, Clear, TopUp, kindOf, usesBench, usesCustomer}
 use Rattle.rules.specs.Form.{Form, plain}
-use Rattle.rules.specs.Steps.{Change, _≔_, putAll, theCarnet, theView, theBenchView, theLine, soldLine, selling, settling, clearing, changes, effect}
+use Rattle.rules.specs.Steps.{Change, _≔_, putAll, theCarnet, theView, theBenchView, theLine, soldLine, selling, settling, clearing, toppingUp, changes, effect}
 use Rattle.rules.specs.Verdicts.{verdict, step}
 use Rattle.rules.proofs.Tests.{below, parts}
 use Rattle.rules.proofs.Stepping.{step-granted, step-verdict}
@@ -61,6 +61,13 @@ Tidies f = (h : Hall) (ts b : List ℕ) → f .good h ts b ≡ true → Tidy f h
 module _ (f : Form) (tidies : Tidies f) (h : Hall) (ts b : List ℕ) (e : Entry) (v : verdict f h ts b e ≡ 0) where
   tidy : Tidy f h ts b
   tidy = tidies h ts b (granted-good f h ts b e v)
+
+  stays : (k : ℕ) → e .kind ≡ k → Standing h b (changes h b e f ts k) → step f h ts b e .cells ≡ b
+  unfolding effect
+  stays k q s =
+      step-granted f h ts b e (step-verdict f h ts b e ∙ v)
+      ∙ ap (λ (i : ℕ). putAll h (changes h b e f ts i) b) q
+      ∙ put-standing h b s
 
   -- a kind that names a bench, a customer and their line
   module _ (k : ℕ) (q : e .kind ≡ k) (both : usesBench k && usesCustomer k && leb (kindOf Sell) k && (eqb k (kindOf Sell) || eqb k (kindOf Clear)) ≡ true) where
@@ -117,28 +124,29 @@ module _ (f : Form) (tidies : Tidies f) (h : Hall) (ts b : List ℕ) (e : Entry)
         also (line-filled ∙ blank)
         also none
 
-    stays : Standing h b (changes h b e f ts k) → step f h ts b e .cells ≡ b
-    unfolding effect
-    stays s =
-        step-granted f h ts b e (step-verdict f h ts b e ∙ v)
-        ∙ ap (λ (i : ℕ). putAll h (changes h b e f ts i) b) q
-        ∙ put-standing h b s
-
   sale-of-none : e .kind ≡ kindOf Sell → e .amount ≡ 0 → step f h ts b e .cells ≡ b
   unfolding changes occ
-  sale-of-none q z = stays (kindOf Sell) q refl (none-sold (kindOf Sell) q refl z)
+  sale-of-none q z = stays (kindOf Sell) q (none-sold (kindOf Sell) q refl z)
 
   clear-of-none : e .kind ≡ kindOf Clear → count (theLine h b e) ≡ 0 → step f h ts b e .cells ≡ b
   unfolding changes occ
-  clear-of-none q z = stays (kindOf Clear) q refl (none-waiting (kindOf Clear) q refl z)
+  clear-of-none q z = stays (kindOf Clear) q (none-waiting (kindOf Clear) q refl z)
+
+  top-up-of-none : e .kind ≡ kindOf TopUp → e .amount ≡ 0 → step f h ts b e .cells ≡ b
+  unfolding changes toppingUp amount
+  top-up-of-none q z =
+      let raised : amount (theView h b e) + e .amount ≡ amount (theView h b e) = omega arith in
+      stays (kindOf TopUp) q
+      (sym (ap (λ (a : ℕ). withAmount a (theView h b e)) raised ∙ with-own 1 (theView h b e)) also none)
 
 -- ---- so, of a form
 pub record Still (f : Form) : Type 0 where
   pub no-sale : (h : Hall) (ts b : List ℕ) (e : Entry) → verdict f h ts b e ≡ 0 → e .kind ≡ kindOf Sell → e .amount ≡ 0 → step f h ts b e .cells ≡ b
   pub empty-clear : (h : Hall) (ts b : List ℕ) (e : Entry) → verdict f h ts b e ≡ 0 → e .kind ≡ kindOf Clear → count (theLine h b e) ≡ 0 → step f h ts b e .cells ≡ b
+  pub no-top-up : (h : Hall) (ts b : List ℕ) (e : Entry) → verdict f h ts b e ≡ 0 → e .kind ≡ kindOf TopUp → e .amount ≡ 0 → step f h ts b e .cells ≡ b
 
 pub still : (f : Form) → Tidies f → Still f
-still f tidies = record { no-sale = sale-of-none f tidies; empty-clear = clear-of-none f tidies }
+still f tidies = record { no-sale = sale-of-none f tidies; empty-clear = clear-of-none f tidies; no-top-up = top-up-of-none f tidies }
 
 -- ---- the plain book
 pub made-as-it-stands : (h : Hall) (ts b : List ℕ) → Book h ts b → (k : ℕ) → number h (Carnet 0) ≤ k → k < number h (Till 0) → inUse (recordAt k b) ≡ 1

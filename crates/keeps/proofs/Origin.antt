@@ -11,7 +11,7 @@ use Rattle.rules.specs.Hall.{Line, number}
 use Rattle.rules.specs.Records.{count, held, made}
 use Rattle.rules.specs.Tape.{Sell, kindOf}
 use Rattle.rules.specs.Form.{Form}
-use Rattle.rules.specs.Steps.{joining, dealing, updating, stocking, soldLine, selling, authenticating, settling, clearing, changes, effect, theCarnet, theLine}
+use Rattle.rules.specs.Steps.{joining, dealing, updating, stocking, soldLine, selling, authenticating, settling, clearing, toppingUp, changes, effect, theCarnet, theLine}
 use Rattle.rules.specs.Verdicts.{verdict, step, steps}
 use Rattle.rules.specs.Sound.{emptyBook}
 use Rattle.rules.proofs.Tests.{below, parts}
@@ -87,7 +87,7 @@ module _ (f : Form) (regular : Regular f) (line : Lines f) (h : Hall) (ts : List
         (ap (isIn t) (sym (line .sold h ts b e v k)) ∙ i))
 
     came : (k : ℕ) → IsKind k → e .kind ≡ k → In (lookup (changes h b e f ts k) (at h b) (Line m c)) → Came
-    unfolding changes joining dealing updating stocking selling authenticating settling clearing
+    unfolding changes joining dealing updating stocking selling authenticating settling clearing toppingUp
     came =
         by-kind (λ k. e .kind ≡ k → In (lookup (changes h b e f ts k) (at h b) (Line m c)) → Came)
         record {
@@ -100,6 +100,7 @@ module _ (f : Form) (regular : Regular f) (line : Lines f) (h : Hall) (ts : List
           bench-authenticates = λ k i. inl i;
           desk-authenticates = λ k i. inl i;
           clear = λ k i. emptied its i;
+          top-up = λ k i. inl i;
         }
 
   module _ (b : List ℕ) (e : Entry) where

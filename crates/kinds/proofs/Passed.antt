@@ -6,7 +6,7 @@ use Rattle.rules.specs.Lists.{ℕ, _+_}
 use Rattle.rules.specs.Hall.{mostHeld}
 use Rattle.rules.specs.Answers.{first}
 use Rattle.rules.proofs.Answering.{passed}
-use Rattle.kinds.specs.Chains.{updateRules, stockRules}
+use Rattle.kinds.specs.Chains.{updateRules, stockRules, topUpRules}
 
 module _ (used budget held left n : ℕ) (granted : first (updateRules used budget held left n) ≡ 0) where
   pub update-paid : n ≤ budget
@@ -24,3 +24,7 @@ module _ (used budget held left n : ℕ) (granted : first (updateRules used budg
 pub stock-few : (used n : ℕ) → first (stockRules used n) ≡ 0 → n ≤ mostHeld
 unfolding stockRules
 stock-few used n granted = ltb-false _ _ (passed (stockRules used n) refl granted 7)
+
+pub top-up-within : (used total most n : ℕ) → first (topUpRules used total most n) ≡ 0 → total + n ≤ most
+unfolding topUpRules
+top-up-within used total most n granted = ltb-false _ _ (passed (topUpRules used total most n) refl granted 7)

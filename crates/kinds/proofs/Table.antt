@@ -9,8 +9,8 @@ use Rattle.rules.specs.Form.{Form}
 use Rattle.rules.specs.Steps.{putAll, changes, effect}
 use Rattle.rules.specs.Verdicts.{table, step}
 use Rattle.rules.proofs.Answering.{first-past}
-use Rattle.kinds.specs.Chains.{joinCustomerRules, joinBenchRules, openRules, updateRules, stockRules, lineRules, saleRules, clearRules, authenticateRules}
-use Rattle.kinds.specs.Kinds.{joinCustomer, joinBench, openLine, update, stock, authenticate, knownLine, sell, clear, Passed}
+use Rattle.kinds.specs.Chains.{joinCustomerRules, joinBenchRules, openRules, updateRules, stockRules, lineRules, saleRules, clearRules, authenticateRules, topUpRules}
+use Rattle.kinds.specs.Kinds.{joinCustomer, joinBench, openLine, update, stock, authenticate, knownLine, sell, clear, topUp, Passed}
 
 or-no : (a : Bool) → a || false ≡ a
 or-no true = refl
@@ -81,3 +81,7 @@ module _ (f : Form) (h : Hall) (ts b : List ℕ) where
   pub step-clear : (e : Entry) → Passed f h ts b e → e .kind ≡ 9 → step f h ts b e ≡ clear h b e f ts
   unfolding later table entryRules first occ changes clear knownLine lineRules clearRules
   step-clear = of-its-kind (λ e. clear h b e f ts) 9 (λ e. answers-alike _ _ _ _ b refl refl)
+
+  pub step-top-up : (e : Entry) → Passed f h ts b e → e .kind ≡ 10 → step f h ts b e ≡ topUp h b e
+  unfolding later table entryRules first occ changes topUp topUpRules
+  step-top-up = of-its-kind (topUp h b) 10 (λ e. answers-alike _ _ _ _ b refl refl)

@@ -45,3 +45,7 @@ clearRules lives = (15 ⇐ not lives) ∷ []
 unfoldable pub authenticateRules : ℕ → ℕ → ℕ → ℕ → ℕ → List Rule
 authenticateRules used till view mine theirs =
     (5 ⇐ not (eqb used 1)) ∷ (13 ⇐ eqb till 0 || eqb view 0) ∷ (14 ⇐ not (eqb mine theirs)) ∷ []
+
+-- the word on use of the desk's view of a customer; the hall's money, and the most that it may be; n
+unfoldable pub topUpRules : ℕ → ℕ → ℕ → ℕ → List Rule
+topUpRules view total most n = (5 ⇐ not (eqb view 1)) ∷ (7 ⇐ ltb most (total + n)) ∷ []

@@ -6,11 +6,12 @@ use Rattle.rules.specs.declared.Hall.{Hall}
 use Rattle.rules.specs.declared.Entry.{Entry}
 use Rattle.rules.specs.Hall.{mostTokens, Carnet, View, BenchView, Till, Line, records}
 use Rattle.rules.specs.Answers.{Rule, first, Answer, answer}
-use Rattle.rules.specs.Records.{words, inUse, amount, count, sales, cells, held, made}
+use Rattle.rules.specs.Records.{words, inUse, amount, count, sales, cells, held, made, recordAt}
+use Rattle.rules.specs.Sound.{total, mostTotal}
 use Rattle.rules.specs.Tape.{entryRules}
 use Rattle.rules.specs.Form.{Form}
-use Rattle.rules.specs.Steps.{Change, _≔_, putAll, dealt, left, joining, updating, stocking, selling, authenticating, clearing, theCarnet, theView, theBenchView, theTill, theLine}
-use Rattle.kinds.specs.Chains.{joinCustomerRules, joinBenchRules, openRules, updateRules, stockRules, lineRules, saleRules, clearRules, authenticateRules}
+use Rattle.rules.specs.Steps.{Change, _≔_, putAll, dealt, left, joining, updating, stocking, selling, authenticating, clearing, toppingUp, theCarnet, theView, theBenchView, theTill, theLine}
+use Rattle.kinds.specs.Chains.{joinCustomerRules, joinBenchRules, openRules, updateRules, stockRules, lineRules, saleRules, clearRules, authenticateRules, topUpRules}
 
 -- the first number that applies; where none does, the changes are made
 abbrev pub judged : Hall → List ℕ → List Rule → List Change → Answer
@@ -57,6 +58,12 @@ module _ (h : Hall) (b : List ℕ) (e : Entry) where
       judged h b
       (knownLine ++ clearRules (every (λ t. isIn t (held (theView h b e))) (f .tokens ts (theLine h b e))))
       (clearing h b e f ts)
+
+  unfoldable pub topUp : Answer
+  topUp =
+      judged h b
+      (topUpRules (inUse (theView h b e)) (total h (λ k. recordAt k b)) (mostTotal h (λ k. recordAt k b)) (e .amount))
+      (toppingUp h b e)
 
 -- ---- what a kind's function is called with
 -- a record of kind k that numbers 2 and 3 let pass, and a book of the right length for a hall whose sizes multiply in range

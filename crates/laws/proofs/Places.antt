@@ -8,9 +8,12 @@ use borrow.Author.Tests.{eq-eqb, ne-eqb}
 use Rattle.rules.specs.declared.Hall.{Hall}
 use Rattle.rules.specs.Lists.{ℕ, zero, suc, _+_, _*_, Bool, true, false, _&&_, eqb, List, occ}
 use Rattle.rules.specs.Hall.{Place, Desk, Carnet, View, BenchView, Till, Line, number, records, carnets, lines, spendable, customerViews, views}
+use Rattle.rules.specs.Records.{amount}
+use Rattle.rules.specs.Sound.{total}
 use Rattle.rules.proofs.Tests.{same, below}
 use Rattle.laws.proofs.Occurrences.{occ-append}
 use Rattle.laws.proofs.Groups.{occ-before, occ-past, occ-within}
+use Rattle.laws.proofs.Sums.{part-of-sum}
 
 abbrev pub Inside : Hall → Place → Type 0
 Inside h Desk = Unit {0}
@@ -235,3 +238,7 @@ seesCustomer-group h (View c) i = occ-within _ _ _ (omega arith) (omega arith)
 seesCustomer-group h (BenchView m) i = occ-past _ _ _ (omega arith)
 seesCustomer-group h (Till m) i = occ-past _ _ _ (omega arith)
 seesCustomer-group h (Line m c) i = occ-past _ _ _ (omega arith)
+
+-- what a view has is a part of the hall's money
+pub in-total : (h : Hall) (at : ℕ → List ℕ) (p : Place) → Inside h p → sees p ≡ 1 → amount (at (number h p)) ≤ total h at
+in-total h at p i s = omega (arith, part-of-sum (λ (k : ℕ). amount (at k)) (number h p) (views h) (omega (arith, sees-group h p i)))

@@ -2,7 +2,7 @@
 use Prim.Native.Nat.{_≤_}
 use native.Mathlib.Omega.{arith}
 use Rattle.rules.specs.Lists.{ℕ, zero, suc}
-use Rattle.rules.specs.Tape.{JoinCustomer, JoinBench, OpenLine, Update, Stock, Sell, BenchAuthenticates, DeskAuthenticates, Clear, kindOf, lastKind}
+use Rattle.rules.specs.Tape.{JoinCustomer, JoinBench, OpenLine, Update, Stock, Sell, BenchAuthenticates, DeskAuthenticates, Clear, TopUp, kindOf, lastKind}
 
 -- k is the number of a kind
 pub record IsKind (k : ℕ) : Type 0 where
@@ -20,6 +20,7 @@ pub record ByKind (P : ℕ → Type 0) : Type 0 where
   pub bench-authenticates : P (kindOf BenchAuthenticates)
   pub desk-authenticates : P (kindOf DeskAuthenticates)
   pub clear : P (kindOf Clear)
+  pub top-up : P (kindOf TopUp)
 
 pub by-kind : (P : ℕ → Type 0) → ByKind P → (k : ℕ) → IsKind k → P k
 by-kind P each zero i = absurd (omega arith)
@@ -32,4 +33,5 @@ by-kind P each (suc (suc (suc (suc (suc (suc zero)))))) i = each .sell
 by-kind P each (suc (suc (suc (suc (suc (suc (suc zero))))))) i = each .bench-authenticates
 by-kind P each (suc (suc (suc (suc (suc (suc (suc (suc zero)))))))) i = each .desk-authenticates
 by-kind P each (suc (suc (suc (suc (suc (suc (suc (suc (suc zero))))))))) i = each .clear
-by-kind P each (suc (suc (suc (suc (suc (suc (suc (suc (suc (suc n)))))))))) i = absurd (omega arith)
+by-kind P each (suc (suc (suc (suc (suc (suc (suc (suc (suc (suc zero)))))))))) i = each .top-up
+by-kind P each (suc (suc (suc (suc (suc (suc (suc (suc (suc (suc (suc n))))))))))) i = absurd (omega arith)

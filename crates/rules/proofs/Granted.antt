@@ -8,8 +8,9 @@ use Rattle.rules.specs.declared.Hall.{Hall}
 use Rattle.rules.specs.declared.Entry.{Entry}
 use Rattle.rules.specs.Lists.{ℕ, zero, suc, _+_, min, Bool, true, false, not, _&&_, _||_, leb, ltb, eqb, List, every, isIn}
 use Rattle.rules.specs.Hall.{mostHeld, mostSales, mostBudget}
-use Rattle.rules.specs.Records.{inUse, amount, count, sales, held}
-use Rattle.rules.specs.Tape.{JoinCustomer, JoinBench, OpenLine, Update, Stock, Sell, Clear, kindOf, is, usesBench, usesCustomer, wellFormed, inHall, entryRules}
+use Rattle.rules.specs.Records.{inUse, amount, count, sales, held, recordAt}
+use Rattle.rules.specs.Sound.{total, mostTotal}
+use Rattle.rules.specs.Tape.{JoinCustomer, JoinBench, OpenLine, Update, Stock, Sell, Clear, TopUp, kindOf, is, usesBench, usesCustomer, wellFormed, inHall, entryRules}
 use Rattle.rules.specs.Form.{Form}
 use Rattle.rules.specs.Steps.{left, theCarnet, theView, theBenchView, theTill, theLine}
 use Rattle.rules.specs.Verdicts.{used, table, verdict}
@@ -103,13 +104,21 @@ module _ (f : Form) (h : Hall) (ts b : List ℕ) (e : Entry) (v : verdict f h ts
   -- 7
   pub join-budget : e .kind ≡ kindOf JoinCustomer → e .amount ≤ mostBudget
   unfolding table entryRules
-  join-budget k = ltb-false _ _ (and-false _ _ (or-left _ _ (tests 7)) (eq-eqb _ _ k))
+  join-budget k =
+      ltb-false _ _ (and-false _ _
+      (or-left _ (is e Stock && ltb mostHeld (e .amount)) (or-left _ _ (tests 7))) (eq-eqb _ _ k))
 
   pub stock-few : e .kind ≡ kindOf Stock → e .amount ≤ mostHeld
   unfolding table entryRules
   stock-few k =
       ltb-false _ _ (and-false _ _
-      (or-right (is e JoinCustomer && ltb mostBudget (e .amount)) _ (tests 7)) (eq-eqb _ _ k))
+      (or-right (is e JoinCustomer && ltb mostBudget (e .amount)) _ (or-left _ _ (tests 7))) (eq-eqb _ _ k))
+
+  pub top-up-within : e .kind ≡ kindOf TopUp → total h (λ k. recordAt k b) + e .amount ≤ mostTotal h (λ k. recordAt k b)
+  unfolding table entryRules
+  top-up-within k =
+      ltb-false _ _ (and-false _ _
+      (or-right (is e JoinCustomer && ltb mostBudget (e .amount) || is e Stock && ltb mostHeld (e .amount)) _ (tests 7)) (eq-eqb _ _ k))
 
   -- 8 to 10
   module _ (k : e .kind ≡ kindOf Update) where

@@ -6,7 +6,7 @@ use Rattle.rules.specs.Lists.{ℕ, Bool, true, List, [], _∷_, occ}
 use Rattle.rules.specs.Hall.{Place, Desk, Carnet, View, BenchView, Till, Line}
 use Rattle.rules.specs.Tape.{usesBench, usesCustomer}
 use Rattle.rules.specs.Form.{Form}
-use Rattle.rules.specs.Steps.{Change, _≔_, joining, dealing, updating, stocking, selling, authenticating, settling, clearing, changes}
+use Rattle.rules.specs.Steps.{Change, _≔_, joining, dealing, updating, stocking, selling, authenticating, settling, clearing, toppingUp, changes}
 use Rattle.rules.proofs.ByKind.{IsKind, by-kind}
 
 -- what G says of every change
@@ -25,7 +25,7 @@ Named e k (Line m c) = ((usesBench k ≡ true) × (m ≡ e .bench)) × ((usesCus
 
 module _ (f : Form) (h : Hall) (ts b : List ℕ) (e : Entry) where
   pub changes-named : (k : ℕ) → IsKind k → Each (λ p r. Named e k p) (changes h b e f ts k)
-  unfolding changes joining dealing updating stocking selling authenticating settling clearing occ
+  unfolding changes joining dealing updating stocking selling authenticating settling clearing toppingUp occ
   changes-named =
       let m : (_≡_ {A = Bool} true true) × (e .bench ≡ e .bench) = (refl, refl) in
       let c : (_≡_ {A = Bool} true true) × (e .customer ≡ e .customer) = (refl, refl) in
@@ -40,4 +40,5 @@ module _ (f : Form) (h : Hall) (ts b : List ℕ) (e : Entry) where
         bench-authenticates = (m, (m, tt));
         desk-authenticates = (m, (m, tt));
         clear = (c, (m, ((m, c), tt)));
+        top-up = (c, tt);
       }

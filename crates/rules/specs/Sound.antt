@@ -60,9 +60,12 @@ onceIn group at = allDifferent (joined (λ k. held (at k)) group)
 abbrev pub total : Hall → (ℕ → List ℕ) → ℕ
 total h at = sumOf (λ k. amount (at k)) (views h) + sumOf (λ k. count (at k)) (customerViews h)
 
--- it came from the customers who joined
+-- it came from the customers who joined, and is no more than so much for each of them
+abbrev pub mostTotal : Hall → (ℕ → List ℕ) → ℕ
+mostTotal h at = mostBudget * sumOf (λ k. inUse (at k)) (customerViews h)
+
 unfoldable pub moneyGood : Hall → (ℕ → List ℕ) → Bool
-moneyGood h at = leb (total h at) (mostBudget * sumOf (λ k. inUse (at k)) (customerViews h))
+moneyGood h at = leb (total h at) (mostTotal h at)
 
 unfoldable pub soundBy : Hall → List ℕ → (ℕ → List ℕ) → Bool
 soundBy h ts at =

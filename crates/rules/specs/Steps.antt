@@ -96,6 +96,10 @@ module _ (h : Hall) (b : List ℕ) (e : Entry) where
   unfoldable pub clearing : Form → List ℕ → List Change
   clearing f ts = settling (f .tokens ts theLine)
 
+  -- the budget is raised, and nothing else
+  unfoldable pub toppingUp : List Change
+  toppingUp = (View (e .customer) ≔ withAmount (amount theView + e .amount) theView) ∷ []
+
   -- what a granted step of kind k changes: the table of kinds, from 0 on, which is none
   unfoldable pub changes : Form → List ℕ → ℕ → List Change
   changes f ts k =
@@ -110,6 +114,7 @@ module _ (h : Hall) (b : List ℕ) (e : Entry) where
       ∷ authenticating
       ∷ authenticating
       ∷ clearing f ts
+      ∷ toppingUp
       ∷ [])
       k []
 

@@ -21,7 +21,7 @@ eightBytes e = e .kind ∷ e .bench ∷ e .customer ∷ e .byte3 ∷ bytesOf (e 
 
 -- ---- the kinds
 pub data Kind : Type 0 where
-  JoinCustomer JoinBench OpenLine Update Stock Sell BenchAuthenticates DeskAuthenticates Clear : Kind
+  JoinCustomer JoinBench OpenLine Update Stock Sell BenchAuthenticates DeskAuthenticates Clear TopUp : Kind
 
 abbrev pub kindOf : Kind → ℕ
 kindOf JoinCustomer = 1
@@ -33,10 +33,11 @@ kindOf Sell = 6
 kindOf BenchAuthenticates = 7
 kindOf DeskAuthenticates = 8
 kindOf Clear = 9
+kindOf TopUp = 10
 
 -- they are numbered from 1 to this
 abbrev pub lastKind : ℕ
-lastKind = 9
+lastKind = 10
 
 abbrev pub is : Entry → Kind → Bool
 is e k = eqb (e .kind) (kindOf k)
@@ -46,10 +47,10 @@ abbrev pub usesBench : ℕ → Bool
 usesBench k = isIn k (2 ∷ 3 ∷ 5 ∷ 6 ∷ 7 ∷ 8 ∷ 9 ∷ [])
 
 abbrev pub usesCustomer : ℕ → Bool
-usesCustomer k = isIn k (1 ∷ 3 ∷ 4 ∷ 6 ∷ 9 ∷ [])
+usesCustomer k = isIn k (1 ∷ 3 ∷ 4 ∷ 6 ∷ 9 ∷ 10 ∷ [])
 
 abbrev pub usesAmount : ℕ → Bool
-usesAmount k = isIn k (1 ∷ 4 ∷ 5 ∷ 6 ∷ [])
+usesAmount k = isIn k (1 ∷ 4 ∷ 5 ∷ 6 ∷ 10 ∷ [])
 
 -- ---- numbers 2 and 3, of a record by itself
 -- the kind is one of these; byte 3 is zero, and so is a field that the kind doesn't use

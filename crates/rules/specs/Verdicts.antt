@@ -2,8 +2,9 @@
 use Rattle.rules.specs.Lists.{_≡_, ℕ, _+_, _*_, Bool, cond, not, _&&_, _||_, leb, ltb, eqb, List, [], _∷_, _++_, length, getD, every, isIn}
 use Rattle.rules.specs.Hall.{Hall, mostHeld, mostSales, mostBudget}
 use Rattle.rules.specs.Answers.{Rule, _⇐_, first, Answer, answer}
-use Rattle.rules.specs.Records.{inUse, amount, count, sales, cells, held}
-use Rattle.rules.specs.Tape.{Entry, JoinCustomer, JoinBench, OpenLine, Update, Stock, Sell, BenchAuthenticates, DeskAuthenticates, Clear, kindOf, is, usesBench, usesCustomer, entryRules, entries}
+use Rattle.rules.specs.Records.{inUse, amount, count, sales, cells, held, recordAt}
+use Rattle.rules.specs.Sound.{total, mostTotal}
+use Rattle.rules.specs.Tape.{Entry, JoinCustomer, JoinBench, OpenLine, Update, Stock, Sell, BenchAuthenticates, DeskAuthenticates, Clear, TopUp, kindOf, is, usesBench, usesCustomer, entryRules, entries}
 use Rattle.rules.specs.Form.{Form}
 use Rattle.rules.specs.Steps.{left, theCarnet, theView, theBenchView, theTill, theLine, effect}
 
@@ -23,13 +24,15 @@ module _ (f : Form) (h : Hall) (ts b : List ℕ) (e : Entry) where
       let benchView = theBenchView h b e in
       let till = theTill h b e in
       let line = theLine h b e in
+      let at : ℕ → List ℕ = λ k. recordAt k b in
       (1 ⇐ not (f .good h ts b))
       ∷ entryRules h e
       ++ (4 ⇐ is e JoinCustomer && used carnet || is e JoinBench && used till || is e OpenLine && used line)
       ∷ (5
       ⇐ leb (kindOf OpenLine) (e .kind) && (usesBench (e .kind) && not (used benchView) || usesCustomer (e .kind) && not (used view)))
       ∷ (6 ⇐ (is e Sell || is e Clear) && not (used line))
-      ∷ (7 ⇐ is e JoinCustomer && ltb mostBudget n || is e Stock && ltb mostHeld n)
+      ∷ (7
+      ⇐ is e JoinCustomer && ltb mostBudget n || is e Stock && ltb mostHeld n || is e TopUp && ltb (mostTotal h at) (total h at + n))
       ∷ (8 ⇐ is e Update && ltb (amount view) n)
       ∷ (9 ⇐ is e Update && ltb mostHeld (count view + n))
       ∷ (10 ⇐ is e Update && ltb (left ts b) (count view + n))

@@ -9,6 +9,7 @@ ghost use Rattle.rules.specs.Sound.{goodList, recordGood, partiesGood, onceIn, 
 ghost use Rattle.sound.specs.Accounts.{accountsGood};
 
 pub mod groups;
+pub mod money;
 pub mod records;
 
 use rules::Hall;
@@ -87,16 +88,12 @@ fn is_spendable_once(h: Hall, book: &[u32]) -> bool
     groups::is_once(book, lines, n)
 }
 
-// Balances and budgets, and a token's worth for each that customers carry, came from the customers who joined.
+// The hall has no more than it may have.
 fn is_money_good(h: Hall, book: &[u32]) -> bool
     requires { ⌜ (h .customers ≤ 64) × (h .benches ≤ 64) × (length (now book) ≡ words * records h) ⌝ }
     ensures { λ r. ⌜ r ≡ moneyGood h (λ k. recordAt k (now (book .entry))) ⌝ }
 {
-    let views = book::view(h, 0);
-    let owned = groups::sum_of(book, 1, views, h.customers + h.benches);
-    let carried = groups::sum_of(book, 2, views, h.customers);
-    let joined = groups::sum_of(book, 0, views, h.customers);
-    owned + carried <= 1000000 * joined
+    money::total(h, book) <= money::most(h, book)
 }
 
 // What both books share word for word.

@@ -5,9 +5,9 @@ use lib.Seq.{getD-drop}
 use Rattle.rules.specs.declared.Hall.{Hall}
 use Rattle.rules.specs.declared.Entry.{Entry}
 use Rattle.rules.specs.Lists.{ℕ, _+_, List, [], drop, getD}
-use Rattle.rules.specs.Hall.{Place, BenchView, Till, number}
-use Rattle.rules.specs.Records.{amount, cells, held, made, withAmount, recordAt, put}
-use Rattle.rules.specs.Steps.{putAll, dealt, fresh, joining, dealing, authenticating}
+use Rattle.rules.specs.Hall.{Place, View, BenchView, Till, number}
+use Rattle.rules.specs.Records.{amount, cells, held, made, withAmount, withWord, recordAt, put}
+use Rattle.rules.specs.Steps.{putAll, dealt, fresh, joining, dealing, authenticating, toppingUp}
 pub use Rattle.rules.proofs.Answering.{refused, granted}
 
 -- a chain is told the words as they were read
@@ -43,3 +43,10 @@ pub as-used-up : (h : Hall) (b : List ℕ) (e : Entry) {k j : ℕ} → k ≡ num
     → after ≡ putAll h (authenticating h b e) b
 unfolding authenticating putAll
 as-used-up h b e p q r = r ∙ rw (p, q)
+
+-- a budget that was read is raised
+pub as-raised : (h : Hall) (b : List ℕ) (e : Entry) {j a : ℕ} → j ≡ number h (View (e .customer)) → a ≡ getD (recordAt j b) 1 0 → {after : List ℕ}
+    → after ≡ put j (withWord 1 (a + e .amount) (recordAt j b)) b
+    → after ≡ putAll h (toppingUp h b e) b
+unfolding toppingUp putAll amount
+as-raised h b e p q r = r ∙ rw (q, p)

@@ -9,6 +9,7 @@ use Rattle.steps.proofs.open_line.Reads as open-line-call
 use Rattle.steps.proofs.update.Reads as update-call
 use Rattle.steps.proofs.stock.Reads as stock-call
 use Rattle.steps.proofs.authenticate.Reads as authenticate-call
+use Rattle.steps.proofs.top_up.Reads as top-up-call
 
 join-customer-determined : (κs : _) (a : _) → Determined {O = ℕ × List ℕ} (join-customer-call.Learnt κs a) (λ z e. (z, e .1 .0 .now))
 join-customer-determined κs a = determined _ _ _ (λ z e p. both (p .number) (p .cells))
@@ -27,3 +28,6 @@ stock-determined κs a = determined _ _ _ (λ z e p. both (p .number) (p .cells)
 
 authenticate-determined : (κs : _) (a : _) → Determined {O = ℕ × List ℕ} (authenticate-call.Learnt κs a) (λ z e. (z, e .1 .0 .now))
 authenticate-determined κs a = determined _ _ _ (λ z e p. both (p .number) (p .cells))
+
+top-up-determined : (κs : _) (a : _) → Determined {O = ℕ × List ℕ} (top-up-call.Learnt κs a) (λ z e. (z, e .1 .0 .now))
+top-up-determined κs a = determined _ _ _ (λ z e p. both (p .number) (p .cells))

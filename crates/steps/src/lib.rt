@@ -2,19 +2,22 @@
 // Inner, all of them: the step has found the book sound and the record well formed, and calls the function of its kind.
 ghost use mathlib.Core.Path.{_≡_};
 ghost use mathlib.Core.Bool.{true};
-ghost use Prim.Native.Nat.{_≤_};
+ghost use Prim.Native.Nat.{_*_, _≤_};
 ghost use lib.ListN.{length};
 ghost use Rattle.rules.specs.Answers.{Gives};
-ghost use Rattle.rules.specs.Records.{words};
+ghost use Rattle.rules.specs.Hall.{mostBudget};
+ghost use Rattle.rules.specs.Records.{words, recordAt};
+ghost use Rattle.rules.specs.Sound.{mostTotal};
 ghost use Rattle.rules.specs.Tape.{usesBench};
 ghost use Rattle.rules.specs.Steps.{left};
-ghost use Rattle.kinds.specs.Kinds.{joinCustomer, joinBench, openLine, update, stock, authenticate, Placed, Listed};
+ghost use Rattle.kinds.specs.Kinds.{joinCustomer, joinBench, openLine, update, stock, authenticate, topUp, Placed, Listed};
 
 pub mod sales;
 
 use book::writing;
 use rules::Entry;
 use rules::Hall;
+use sound::money;
 use tokens::searching;
 
 // ---- who comes in
@@ -133,5 +136,26 @@ pub fn authenticate(h: Hall, book: &mut [u32], e: Entry) -> u8
         return refused;
     }
     changes::use_up(book, till, view);
+    0
+}
+
+// ---- more budget for who is in
+
+// Every view is read, since the hall's money is taken whole, and one word is written. In a sound book the most that there may
+// be is no more than so much for each customer of the hall, so a budget that is raised still fits its word.
+pub fn top_up(h: Hall, book: &mut [u32], e: Entry) -> u8
+    requires { ⌜ Placed h (now book) e 10 × (mostTotal h (λ k. recordAt k (now book)) ≤ mostBudget * h .customers) ⌝ }
+    ensures { λ r. ⌜ Gives (topUp h (now (book .entry)) e) r (now (book .exit)) ⌝ }
+{
+    let view = book::view(h, e.customer);
+    let used = book::word_of(book, view, 0);
+    let budget = book::word_of(book, view, 1);
+    let total = money::total(h, book);
+    let most = money::most(h, book);
+    let refused = checks::top_up(used, total, most, e.amount);
+    if refused != 0 {
+        return refused;
+    }
+    writing::set_word(book, view, 1, budget + e.amount);
     0
 }

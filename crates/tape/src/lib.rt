@@ -100,6 +100,9 @@ pub fn judge(h: Hall, e: Entry) -> u8
     if kind == 9 {
         return fields(h, e, true, true, false);
     }
+    if kind == 10 {
+        return fields(h, e, false, true, true);
+    }
     2
 }
 

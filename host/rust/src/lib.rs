@@ -41,7 +41,7 @@ pub enum Form {
 /// A record of a tape by its five fields.
 #[derive(Clone, Copy, Debug, Default, PartialEq, Eq)]
 pub struct Entry {
-    /// Which of the nine kinds, from 1 on.
+    /// Which of the ten kinds, from 1 on.
     pub kind: u8,
     /// The bench, or 0 where the kind uses none.
     pub bench: u8,

@@ -1,7 +1,7 @@
 -- Each kind's function is called with what it asks for, and its answer is the step's.
 use Rattle.steps.proofs.sales.Stood.{works}
 use Rattle.book.specs.Forms.{formOf}
-use Rattle.kinds.proofs.Table.{step-join-customer, step-join-bench, step-open-line, step-update, step-stock, step-sell, step-clear}
+use Rattle.kinds.proofs.Table.{step-join-customer, step-join-bench, step-open-line, step-update, step-stock, step-sell, step-clear, step-top-up}
 use Rattle.desk.proofs.Kind.{as-step, Other, passed, placed, listed, asks-bench, step-authenticates}
 use mathlib.Core.Path.{_≡_, refl}
 use Rattle.rules.specs.Lists.{ℕ}
@@ -153,34 +153,62 @@ returns-7 c =
     let s = begun-from-struct-known7 (at-then7 c .before) in
     as-step _ _ _ _ (step-clear _ _ _ _ _ (let-pass s) (at-then7 c .if7 .taken)) (c .before .before .clear .ensures)
 
-abbrev at-else5 : tie.Else7 → tie.Else5
-at-else5 c = c .before .before .before .before
+abbrev begun-from-struct-known8 : tie.After-struct-known8 → tie.Start
+begun-from-struct-known8 c = begun-from-struct-known7 (c .before .before)
 
-abbrev at-else4 : tie.Else7 → tie.Else4
-at-else4 c = at-else5 c .before .before
-
-abbrev at-else2 : tie.Else7 → tie.Else2
-at-else2 c = at-else4 c .before .before .before .before
-
-other : (c : tie.Else7) → Other (begun-from-struct-known7 (c .before) .args .e .kind)
-other c =
-    record { join-customer = at-else2 c .before .before .if1 .left; join-bench = at-else2 c .if2 .left; open-line = at-else4 c .before .before .if3 .left; update = at-else4 c .if4 .left; stock = at-else5 c .if5 .left; sell = c .before .before .if6 .left; clear = c .if7 .left }
-
-authenticate-requires : tie.Need-authenticate-requires
-authenticate-requires c κs =
-    let s = begun-from-struct-known7 (c .before .before) in
-    (stands s _ refl, asks-bench (formOf (s .args .form)) (s .args .h) (s .args .tokens .now) (s .args .book .now) (s .args .e) (works (s .args .form)) (s .pre .0) (s .pre .1) (other (c .before)))
+top-up-requires : tie.Need-top-up-requires
+top-up-requires c κs =
+    let s = begun-from-struct-known8 (c .before .before) in
+    (stands s 10 (c .before .if8 .taken), works (s .args .form) .ready _ _ _ (s .pre .0 .good) .most)
 
 same-length-8 : tie.Need-same-length-8
 same-length-8 c = search needs
 
-abbrev at-else7 : tie.After-slice-known9 → tie.Else7
-at-else7 c = c .before .before .before .before
+abbrev at-then8 : tie.After-slice-known9 → tie.Then8
+at-then8 c = c .before .before .before .before
 
 returns-8 : tie.Need-returns-8
 returns-8 c =
-    let s = begun-from-struct-known7 (at-else7 c .before) in
-    as-step _ _ _ _ (step-authenticates (formOf (s .args .form)) (s .args .h) (s .args .tokens .now) (s .args .book .now) (s .args .e) (works (s .args .form)) (s .pre .0) (s .pre .1) (other (at-else7 c))) (c .before .before .authenticate .ensures)
+    let s = begun-from-struct-known8 (at-then8 c .before) in
+    as-step _ _ _ _ (step-top-up _ _ _ _ _ (let-pass s) (at-then8 c .if8 .taken)) (c .before .before .top-up .ensures)
+
+abbrev at-else6 : tie.Else8 → tie.Else6
+at-else6 c = c .before .before .before .before
+
+abbrev at-else4 : tie.Else8 → tie.Else4
+at-else4 c = at-else6 c .before .before .before .before
+
+abbrev at-else2 : tie.Else8 → tie.Else2
+at-else2 c = at-else4 c .before .before .before .before
+
+other : (c : tie.Else8) → Other (begun-from-struct-known8 (c .before) .args .e .kind)
+other c =
+    record {
+      join-customer = at-else2 c .before .before .if1 .left;
+      join-bench = at-else2 c .if2 .left;
+      open-line = at-else4 c .before .before .if3 .left;
+      update = at-else4 c .if4 .left;
+      stock = at-else6 c .before .before .if5 .left;
+      sell = at-else6 c .if6 .left;
+      clear = c .before .before .if7 .left;
+      top-up = c .if8 .left;
+    }
+
+authenticate-requires : tie.Need-authenticate-requires
+authenticate-requires c κs =
+    let s = begun-from-struct-known8 (c .before .before) in
+    (stands s _ refl, asks-bench (formOf (s .args .form)) (s .args .h) (s .args .tokens .now) (s .args .book .now) (s .args .e) (works (s .args .form)) (s .pre .0) (s .pre .1) (other (c .before)))
+
+same-length-9 : tie.Need-same-length-9
+same-length-9 c = search needs
+
+abbrev at-else8 : tie.After-slice-known10 → tie.Else8
+at-else8 c = c .before .before .before .before
+
+returns-9 : tie.Need-returns-9
+returns-9 c =
+    let s = begun-from-struct-known8 (at-else8 c .before) in
+    as-step _ _ _ _ (step-authenticates (formOf (s .args .form)) (s .args .h) (s .args .tokens .now) (s .args .book .now) (s .args .e) (works (s .args .form)) (s .pre .0) (s .pre .1) (other (at-else8 c))) (c .before .before .authenticate .ensures)
 
 pub step-kind-spec : {M : Type 1} → statement M
 step-kind-spec =
@@ -207,6 +235,9 @@ step-kind-spec =
     clear-requires
     same-length-7
     returns-7
-    authenticate-requires
+    top-up-requires
     same-length-8
-    returns-8)
+    returns-8
+    authenticate-requires
+    same-length-9
+    returns-9)

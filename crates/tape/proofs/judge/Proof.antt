@@ -1,4 +1,4 @@
--- Each kind is cited with what it uses, which the rules' lists give; where none of the nine is found, it is no kind.
+-- Each kind is cited with what it uses, which the rules' lists give; where none of the ten is found, it is no kind.
 use mathlib.Core.Path.{refl}
 use borrow.Author.Needs.{needs}
 use Rattle.rules.specs.Lists.{occ}
@@ -69,9 +69,17 @@ returns-9 : tie.Need-returns-9
 unfolding occ
 returns-9 c = of-kind _ _ 9 _ refl refl (c .before .if9 .taken) (c .fields9 .ensures)
 
+fields-requires-10 : tie.Need-fields-requires-10
+fields-requires-10 c κs = search needs
+
 returns-10 : tie.Need-returns-10
-returns-10 c =
-    let k8 = c .before in
+unfolding occ
+returns-10 c = of-kind _ _ 10 _ refl refl (c .before .if10 .taken) (c .fields10 .ensures)
+
+returns-11 : tie.Need-returns-11
+returns-11 c =
+    let k9 = c .before in
+    let k8 = k9 .before in
     let k7 = k8 .before in
     let k6 = k7 .before in
     let k5 = k6 .before in
@@ -88,7 +96,8 @@ returns-10 c =
       sell = k6 .if6 .left;
       bench-authenticates = k7 .if7 .left;
       desk-authenticates = k8 .if8 .left;
-      clear = c .if9 .left;
+      clear = k9 .if9 .left;
+      top-up = c .if10 .left;
     }
 
 pub judge-spec : {M : Type 1} → statement M
@@ -113,4 +122,6 @@ judge-spec =
     returns-8
     fields-requires-9
     returns-9
-    returns-10)
+    fields-requires-10
+    returns-10
+    returns-11)
