@@ -1,6 +1,6 @@
 -- A step leaves every record of a party that it doesn't name, word for word: no bench is touched by another's step. A top up
 -- leaves every word but one.
-use mathlib.Core.Path.{_≡_, refl, sym, ap, _∙_}
+use mathlib.Core.Path.{_≡_, refl, sym, _∙_}
 use Prim.Native.Nat.{_<_}
 use native.Mathlib.Omega.{arith}
 use Rattle.rules.specs.declared.Hall.{Hall}
@@ -12,7 +12,7 @@ use Rattle.rules.specs.Tape.{TopUp, kindOf, usesBench}
 use Rattle.rules.specs.Form.{Form}
 use Rattle.rules.specs.Steps.{putAll, theView, toppingUp, changes, effect}
 use Rattle.rules.specs.Verdicts.{verdict, step}
-use Rattle.rules.proofs.Stepping.{step-granted, step-verdict, step-cases}
+use Rattle.rules.proofs.Stepping.{step-changes, step-cases}
 use Rattle.laws.proofs.Blocks.{block-word}
 use Rattle.laws.proofs.Places.{Inside, inside-below}
 use Rattle.laws.proofs.Changes.{at, all-outside}
@@ -50,10 +50,9 @@ module _ (f : Form) (regular : Regular f) (h : Hall) (ts b : List ℕ) (e : Entr
   -- granted, a top up writes the budget's word and no other
   pub one-word : verdict f h ts b e ≡ 0 → e .kind ≡ kindOf TopUp
       → step f h ts b e .cells ≡ withWord (words * number h (View (e .customer)) + 1) (amount (theView h b e) + e .amount) b
-  unfolding effect changes toppingUp putAll withWord
+  unfolding changes toppingUp putAll withWord
   one-word v k =
       let i : Inside h (View (e .customer)) = top-up-customer f h ts b e v k in
-      step-granted f h ts b e (step-verdict f h ts b e ∙ v)
-      ∙ ap (λ (n : ℕ). putAll h (changes h b e f ts n) b) k
+      step-changes f h ts b e v k
       ∙ sym (block-word words (number h (View (e .customer))) 1 _ b
       (omega (arith, regular .long h ts b (granted-good f h ts b e v), inside-below h (View (e .customer)) i)) (omega arith))

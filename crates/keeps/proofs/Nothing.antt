@@ -11,10 +11,10 @@ use Rattle.rules.specs.Hall.{Place, Carnet, View, Till, Line, number, records}
 use Rattle.rules.specs.Records.{words, inUse, amount, count, sales, held, filled, made, withAmount, recordAt, put}
 use Rattle.rules.specs.Tape.{Sell, Clear, TopUp, kindOf, usesBench, usesCustomer}
 use Rattle.rules.specs.Form.{Form, plain}
-use Rattle.rules.specs.Steps.{Change, _≔_, putAll, theCarnet, theView, theBenchView, theLine, soldLine, selling, settling, clearing, toppingUp, changes, effect}
+use Rattle.rules.specs.Steps.{Change, _≔_, putAll, theCarnet, theView, theBenchView, theLine, soldLine, selling, settling, clearing, toppingUp, changes}
 use Rattle.rules.specs.Verdicts.{verdict, step}
 use Rattle.rules.proofs.Tests.{below, parts}
-use Rattle.rules.proofs.Stepping.{step-granted, step-verdict}
+use Rattle.rules.proofs.Stepping.{step-changes}
 use Rattle.rules.proofs.Granted.{granted-good, bench-inside, customer-inside, has-customer, has-line}
 use Rattle.laws.proofs.Blocks.{block-back}
 use Rattle.laws.proofs.Made.{with-own}
@@ -63,11 +63,7 @@ module _ (f : Form) (tidies : Tidies f) (h : Hall) (ts b : List ℕ) (e : Entry)
   tidy = tidies h ts b (granted-good f h ts b e v)
 
   stays : (k : ℕ) → e .kind ≡ k → Standing h b (changes h b e f ts k) → step f h ts b e .cells ≡ b
-  unfolding effect
-  stays k q s =
-      step-granted f h ts b e (step-verdict f h ts b e ∙ v)
-      ∙ ap (λ (i : ℕ). putAll h (changes h b e f ts i) b) q
-      ∙ put-standing h b s
+  stays k q s = step-changes f h ts b e v q ∙ put-standing h b s
 
   -- a kind that names a bench, a customer and their line
   module _ (k : ℕ) (q : e .kind ≡ k) (both : usesBench k && usesCustomer k && leb (kindOf Sell) k && (eqb k (kindOf Sell) || eqb k (kindOf Clear)) ≡ true) where

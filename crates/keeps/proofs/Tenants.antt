@@ -11,9 +11,9 @@ use Rattle.rules.specs.Records.{words, amount, count, held}
 use Rattle.rules.specs.Sound.{emptyBook}
 use Rattle.rules.specs.Tape.{Clear, kindOf, usesBench, usesCustomer}
 use Rattle.rules.specs.Form.{Form, plain}
-use Rattle.rules.specs.Steps.{settling, clearing, changes, effect, theLine}
+use Rattle.rules.specs.Steps.{settling, clearing, changes, theLine}
 use Rattle.rules.specs.Verdicts.{verdict, step, steps}
-use Rattle.rules.proofs.Stepping.{step-granted, step-verdict, sold-before}
+use Rattle.rules.proofs.Stepping.{step-changes, sold-before}
 use Rattle.rules.proofs.Granted.{granted-good, granted-kind, bench-inside, customer-inside, sell-enough}
 use Rattle.laws.proofs.Made.{made-held, amount-is}
 use Rattle.laws.proofs.Reflect.{sound-facts}
@@ -54,9 +54,8 @@ module _ (f : Form) (regular : Regular f) (h : Hall) (ts b : List ℕ) (e : Entr
       (amount-is _ (at h b (BenchView (e .bench))) (omega (arith, at-long h b long (BenchView (e .bench)) m-in)))
 
   balance : amount (at h (step f h ts b e .cells) (BenchView (e .bench))) ≡ amount (at h b (BenchView (e .bench))) + length (f .tokens ts (theLine h b e))
-  unfolding effect
   balance =
-      ap (λ (x : List ℕ). amount (at h x (BenchView (e .bench)))) (step-granted f h ts b e (step-verdict f h ts b e ∙ v))
+      ap (λ (x : List ℕ). amount (at h x (BenchView (e .bench)))) (step-changes f h ts b e v refl)
       ∙ ap amount
       (all-at h (changes h b e f ts (e .kind)) b long (fits f regular h ts b e v)
       (changes-apart f h ts b e (e .kind) (granted-kind f h ts b e v)) (BenchView (e .bench)) m-in)

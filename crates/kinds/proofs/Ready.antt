@@ -30,7 +30,7 @@ pub record Ready (h : Hall) (ts b : List ℕ) : Type 0 where
   pub dealt-few : dealt b ≤ length ts
   pub counts : (k : ℕ) → k < records h → count (recordAt k b) ≤ mostHeld
   pub line-sales : (k : ℕ) → number h (Line 0 0) ≤ k → k < records h → sales (recordAt k b) ≤ mostSales
-  -- there is no more money than so much for each customer of the hall, and no balance is above that
+  -- what money there may be is at most 1,000,000 for each customer of the hall, and no balance is above that
   pub most : mostTotal h (λ k. recordAt k b) ≤ mostBudget * h .customers
   pub balances : (m : ℕ) → m < h .benches → amount (recordAt (number h (BenchView m)) b) ≤ mostBudget * h .customers
 

@@ -1,5 +1,5 @@
 -- A step: refused, it leaves the book; its verdict is a number of the table; what an update reads and what a sale leaves.
-use mathlib.Core.Path.{_≡_, refl, sym, _∙_, subst}
+use mathlib.Core.Path.{_≡_, refl, sym, ap, _∙_, subst}
 use mathlib.Core.Logic.{⊎-elim}
 use Prim.Native.Nat.{_≤_, _<_}
 use native.Mathlib.Omega.{arith}
@@ -12,7 +12,7 @@ use Rattle.rules.specs.Records.{amount, count, sales, held, filled, reco
 use Rattle.rules.specs.Slips.{openSlip, openSlips, slipTokens, slipPairs, slipOf, slip}
 use Rattle.rules.specs.Tape.{Entry, entryRules}
 use Rattle.rules.specs.Form.{Form, plain}
-use Rattle.rules.specs.Steps.{theCarnet, theView, theLine, dealing, updating, soldLine, effect}
+use Rattle.rules.specs.Steps.{putAll, theCarnet, theView, theLine, dealing, updating, soldLine, changes, effect}
 use Rattle.rules.specs.Verdicts.{table, verdict, step}
 use Rattle.rules.proofs.Tests.{same}
 use Rattle.rules.proofs.Answering.{answer-granted, answer-refused, Lowest, first-lowest, numbers, first-listed}
@@ -29,6 +29,11 @@ module _ (f : Form) (h : Hall) (ts b : List ℕ) (e : Entry) where
   pub step-verdict : step f h ts b e .number ≡ verdict f h ts b e
   unfolding step answer verdict
   step-verdict = refl
+
+  -- a granted step of kind k makes that kind's changes
+  pub step-changes : verdict f h ts b e ≡ 0 → {k : ℕ} → e .kind ≡ k → step f h ts b e .cells ≡ putAll h (changes h b e f ts k) b
+  unfolding effect
+  step-changes v q = step-granted (step-verdict ∙ v) ∙ ap (λ (i : ℕ). putAll h (changes h b e f ts i) b) q
 
   -- what holds of the book before a step, and after it where it is granted, holds after every step
   pub step-cases : (P : List ℕ → Type 0) → (verdict f h ts b e ≡ 0 → P (effect f h ts b e)) → P b → P (step f h ts b e .cells)

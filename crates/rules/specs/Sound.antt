@@ -60,7 +60,7 @@ onceIn group at = allDifferent (joined (λ k. held (at k)) group)
 abbrev pub total : Hall → (ℕ → List ℕ) → ℕ
 total h at = sumOf (λ k. amount (at k)) (views h) + sumOf (λ k. count (at k)) (customerViews h)
 
--- it came from the customers who joined, and is no more than so much for each of them
+-- what it may come to: the most that one may join with, for each customer who joined
 abbrev pub mostTotal : Hall → (ℕ → List ℕ) → ℕ
 mostTotal h at = mostBudget * sumOf (λ k. inUse (at k)) (customerViews h)
 

@@ -20,7 +20,7 @@ pub fn total(h: Hall, book: &[u32]) -> u64
     owned + carried
 }
 
-// So much for each customer who joined.
+// What that may come to: 1,000,000 for each customer who joined.
 pub fn most(h: Hall, book: &[u32]) -> u64
     requires { ⌜ (h .customers ≤ 64) × (h .benches ≤ 64) × (length (now book) ≡ words * records h) ⌝ }
     ensures { λ r. ⌜ r ≡ mostTotal h (λ k. recordAt k (now (book .entry))) ⌝ }

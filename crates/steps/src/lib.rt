@@ -141,8 +141,8 @@ pub fn authenticate(h: Hall, book: &mut [u32], e: Entry) -> u8
 
 // ---- more budget for who is in
 
-// Every view is read, since the hall's money is taken whole, and one word is written. In a sound book the most that there may
-// be is no more than so much for each customer of the hall, so a budget that is raised still fits its word.
+// Every view is read for the hall's money, and one word is written. What there may be in a sound book is at most 1,000,000 for
+// each customer of the hall, so that a budget which is raised fits its word.
 pub fn top_up(h: Hall, book: &mut [u32], e: Entry) -> u8
     requires { ⌜ Placed h (now book) e 10 × (mostTotal h (λ k. recordAt k (now book)) ≤ mostBudget * h .customers) ⌝ }
     ensures { λ r. ⌜ Gives (topUp h (now (book .entry)) e) r (now (book .exit)) ⌝ }

@@ -13,7 +13,7 @@ use Rattle.kinds.specs.Kinds.{topUp}
 use Rattle.kinds.proofs.Passed.{top-up-within}
 use Rattle.laws.proofs.Places.{in-total}
 use Rattle.steps.proofs.Found.{customer-in, stands-at}
-use Rattle.steps.proofs.Answered.{refused, granted, word-at, as-raised}
+use Rattle.steps.proofs.Answered.{refused, granted, of-words, word-at, as-raised}
 use borrow.Author.Needs.{needs}
 use Rattle.steps.proofs.top_up.Statement.{statement}
 use Rattle.steps.proofs.top_up.Tie as tie
@@ -56,10 +56,6 @@ top-up-requires c κs = search needs
 same-length : tie.Need-same-length
 same-length c = search needs
 
--- the chain is told the words and sums as they were found
-told : (n : ℕ) {x u u′ t t′ m m′ : ℕ} → x ≡ first (topUpRules u t m n) → u ≡ u′ → t ≡ t′ → m ≡ m′ → x ≡ first (topUpRules u′ t′ m′ n)
-told n y p q r = y ∙ rw (p, q, r)
-
 verdict : (c : tie.After-top-up) → let s = begun (numbered (budgeted c)) .args in
     c .top-up .result
     ≡ first (topUpRules (inUse (theView (s .h) (s .book .now) (s .e))) (total (s .h) (λ k. recordAt k (s .book .now))) (mostTotal (s .h) (λ k. recordAt k (s .book .now))) (s .e .amount))
@@ -68,10 +64,11 @@ verdict c =
     let read = budgeted c in
     let n = numbered read in
     let s = begun n .args in
-    told (s .e .amount) (c .top-up .ensures)
+    of-words (λ (u t m n k : ℕ). first (topUpRules u t m n)) {e = 0} (c .top-up .ensures)
     (word-at (s .book .now) 0 (n .view .ensures) (read .before .before .word-of .ensures))
     (c .before .before .before .total .ensures)
     (c .before .most .ensures)
+    refl refl
 
 returns : tie.Need-returns
 unfolding topUp
