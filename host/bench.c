@@ -17,7 +17,7 @@ enum { MOST_RECORDS = 4096 };
 enum call { RUN, SOUND, OPENED, TO_BYTES, FROM_BYTES };
 
 static uint32_t tokens[GS_MOST_TOKENS], start[GS_BOOK_WORDS], book[GS_BOOK_WORDS], opened[GS_BOOK_WORDS];
-static uint8_t tape[8 * MOST_RECORDS], verdicts[MOST_RECORDS], bytes[GS_BOOK_BYTES];
+static uint8_t tape[8 * MOST_RECORDS], verdicts[MOST_RECORDS], seconds[MOST_RECORDS], bytes[GS_BOOK_BYTES];
 static size_t listed, records;
 
 static void fail(const char *why)
@@ -67,12 +67,17 @@ static int all_granted(uint8_t answer)
     return answer == 0;
 }
 
+/* A run over the tape's first records, on one of the books. */
+static uint8_t run(const struct ledger *ledger, enum form form, uint32_t *on, size_t count)
+{
+    return ledger->run[form](tokens, listed, on, GS_BOOK_WORDS, tape, 8 * count, verdicts, count, seconds, count);
+}
+
 /* The tape so far is how the book came about; now begins the one to be measured. */
 static void settle(enum form form)
 {
-    const struct ledger *hand = &LEDGERS[HAND];
-    hand->empty(start, GS_BOOK_WORDS);
-    if (!all_granted(hand->run[form](tokens, listed, start, GS_BOOK_WORDS, tape, 8 * records, verdicts, records)))
+    LEDGERS[HAND].empty(start, GS_BOOK_WORDS);
+    if (!all_granted(run(&LEDGERS[HAND], form, start, records)))
         fail("the book can't come about so");
     records = 0;
 }
@@ -199,7 +204,7 @@ __attribute__((noinline)) uint8_t measured(const struct ledger *ledger, enum cal
 {
     switch (call) {
     case RUN:
-        return ledger->run[form](tokens, listed, book, GS_BOOK_WORDS, tape, 8 * records, verdicts, records);
+        return run(ledger, form, book, records);
     case SOUND:
         return ledger->sound[form](tokens, listed, book, GS_BOOK_WORDS);
     case OPENED:
@@ -213,7 +218,7 @@ __attribute__((noinline)) uint8_t measured(const struct ledger *ledger, enum cal
 
 __attribute__((noinline)) uint8_t bare(const struct ledger *ledger, enum call call, enum form form)
 {
-    return call == RUN ? ledger->run[form](tokens, listed, book, GS_BOOK_WORDS, tape, 0, verdicts, 0) : 0;
+    return call == RUN ? run(ledger, form, book, 0) : 0;
 }
 
 static long long now(void)

@@ -16,8 +16,9 @@ struct ledger {
     const char *name;
     uint8_t (*empty)(uint32_t *, size_t);
     uint8_t (*sound[2])(const uint32_t *, size_t, const uint32_t *, size_t);
-    uint8_t (*step[2])(const uint32_t *, size_t, uint32_t *, size_t, uint8_t, uint8_t, uint8_t, uint8_t, uint32_t);
-    uint8_t (*run[2])(const uint32_t *, size_t, uint32_t *, size_t, const uint8_t *, size_t, uint8_t *, size_t);
+    uint16_t (*step[2])(const uint32_t *, size_t, uint32_t *, size_t, uint8_t, uint8_t, uint8_t, uint8_t, uint32_t);
+    uint8_t (*run[2])(const uint32_t *, size_t, uint32_t *, size_t, const uint8_t *, size_t, uint8_t *, size_t,
+                      uint8_t *, size_t);
     uint8_t (*open)(const uint32_t *, size_t, const uint32_t *, size_t, uint32_t *, size_t);
     uint8_t (*to_bytes)(const uint32_t *, size_t, uint8_t *, size_t);
     uint8_t (*from_bytes)(const uint8_t *, size_t, uint32_t *, size_t);

@@ -9,14 +9,15 @@
 #include "both.h"
 
 enum { LIST = GS_MOST_TOKENS + 1, WORDS = GS_BOOK_WORDS + 1, BYTES = GS_BOOK_BYTES + 4, MOST_VERDICTS = 32, TEXT = 1 << 20 };
+enum { AS_VERDICTS = MOST_VERDICTS + 1 };
 
 /* What a row is tried on, and what it has said so far: its last five numbers, oldest first; how much is lent of the list,
-   of the book, and of the tape to be written; where the tape ends. */
+   of the book, of the tape to be written, and to a run for second numbers; where the tape ends. */
 static struct trial {
     enum form form;
     uint32_t list[LIST], book[WORDS], said[5];
     uint8_t bytes[BYTES];
-    size_t tokens, words, part, end;
+    size_t tokens, words, part, seconds, end;
 } t;
 
 static const struct ledger *const LIBRARY = &LEDGERS[PROVED];
@@ -29,6 +30,14 @@ static size_t smaller(size_t a, size_t b)
 static void show(size_t number)
 {
     printf(" %zu", number);
+}
+
+/* A step's two numbers. A second one of 0, which most have, isn't shown. */
+static void show_both(uint16_t answer)
+{
+    show(GS_VERDICT(answer));
+    if (GS_SECOND(answer) != 0)
+        printf(":%d", GS_SECOND(answer));
 }
 
 /* ---- the list and the book ---- */
@@ -80,15 +89,23 @@ static void read_record(size_t at, size_t bytes)
         show(fields[i]);
 }
 
-static void run(size_t verdicts, size_t bytes)
+/* A bar ends it, as only the row says how long it is. */
+static void show_buffer(const uint8_t *buffer, size_t n)
 {
-    uint8_t buffer[MOST_VERDICTS];
-    size_t n = smaller(verdicts, MOST_VERDICTS);
-    for (size_t i = 0; i < n; i++)
-        buffer[i] = 99;
-    show(LIBRARY->run[t.form](t.list, t.tokens, t.book, t.words, t.bytes, bytes, buffer, n));
     for (size_t i = 0; i < n; i++)
         show(buffer[i]);
+    printf(" |");
+}
+
+static void run(size_t verdicts, size_t bytes)
+{
+    uint8_t first[MOST_VERDICTS], second[MOST_VERDICTS];
+    size_t n = smaller(verdicts, MOST_VERDICTS), m = t.seconds == AS_VERDICTS ? n : t.seconds;
+    memset(first, 99, sizeof first);
+    memset(second, 99, sizeof second);
+    show(LIBRARY->run[t.form](t.list, t.tokens, t.book, t.words, t.bytes, bytes, first, n, second, m));
+    show_buffer(first, n);
+    show_buffer(second, m);
 }
 
 /* ---- what a sign does with the numbers before it ---- */
@@ -147,7 +164,7 @@ static void on_book(char sign, const uint32_t *s, const uint8_t *five)
         show(open_book());
         break;
     case ';':
-        show(LIBRARY->step[t.form](t.list, t.tokens, t.book, t.words, five[0], five[1], five[2], five[3], s[4]));
+        show_both(LIBRARY->step[t.form](t.list, t.tokens, t.book, t.words, five[0], five[1], five[2], five[3], s[4]));
         break;
     default:
         on_bytes(sign, s[3], s[4], five);
@@ -170,6 +187,8 @@ static void on_sign(char sign)
         t.words = smaller(s[4], WORDS);
     } else if (sign == '%') {
         t.part = s[4];
+    } else if (sign == '|') {
+        t.seconds = smaller(s[4], MOST_VERDICTS);
     } else {
         on_book(sign, s, five);
     }
@@ -185,6 +204,7 @@ static void begin(enum form form, const uint32_t *loaded)
     t.tokens = 160;
     t.words = GS_BOOK_WORDS;
     t.part = 8;
+    t.seconds = AS_VERDICTS;
     memcpy(t.book, loaded, 4 * GS_BOOK_WORDS);
     for (uint32_t i = 0; i < LIST; i++)
         t.list[i] = i == 140 ? 0 : 100 + i;

@@ -6,7 +6,7 @@
 #include <string.h>
 
 static uint32_t tokens[GS_MOST_TOKENS + 1], book[GS_BOOK_WORDS + 1], expected[GS_BOOK_WORDS];
-static uint8_t bytes[GS_BOOK_BYTES + 1], tape[9 * GS_TAPE_BYTES], verdicts[9];
+static uint8_t bytes[GS_BOOK_BYTES + 1], tape[9 * GS_TAPE_BYTES], verdicts[9], seconds[9];
 static int differences;
 
 static void is(const char *what, size_t found, size_t wanted)
@@ -54,7 +54,7 @@ static void day(uint8_t bench, uint8_t customer)
         gs_write(kind, at, who, 0, steps[i][1], tape + GS_TAPE_BYTES * i, GS_TAPE_BYTES);
     }
     gs_empty(book, GS_BOOK_WORDS);
-    is("the run", gs_run(tokens, GS_MOST_TOKENS, book, GS_BOOK_WORDS, tape, sizeof tape, verdicts, sizeof verdicts), 0);
+    is("the run", gs_run(tokens, GS_MOST_TOKENS, book, GS_BOOK_WORDS, tape, sizeof tape, verdicts, 9, seconds, 9), 0);
     memset(expected, 0, sizeof expected);
     expect(GS_DESK, 8, 0, 0, 0);
     expect(GS_CARNET(customer), 0, 0, 4, 2);
@@ -69,6 +69,21 @@ static void day(uint8_t bench, uint8_t customer)
         is("a word of the book", book[i], expected[i]);
 }
 
+static uint16_t step(uint8_t kind, uint8_t bench, uint8_t customer, uint32_t amount)
+{
+    return gs_step(tokens, GS_MOST_TOKENS, book, GS_BOOK_WORDS, kind, bench, customer, 0, amount);
+}
+
+/* After the day an update kills the two tokens that wait, and two that are sold then come before them. */
+static void dead(uint8_t bench, uint8_t customer)
+{
+    is("an update's verdict", GS_VERDICT(step(4, 0, customer, 0)), 0);
+    is("a sale's two numbers", step(6, bench, customer, 2), 0);
+    uint16_t answer = step(9, bench, customer, 0);
+    is("the verdict on a dead token", GS_VERDICT(answer), 15);
+    is("its place", GS_SECOND(answer), 2);
+}
+
 int main(void)
 {
     for (uint32_t i = 0; i <= GS_MOST_TOKENS; i++)
@@ -76,5 +91,6 @@ int main(void)
     lengths();
     day(GS_BENCHES - 1, GS_CUSTOMERS - 1);
     day(2, 5); /* two that can't be taken for each other */
+    dead(2, 5);
     return differences != 0;
 }

@@ -285,6 +285,17 @@ void draw_tape(uint8_t *tape, size_t records, int joining)
     }
 }
 
+void draw_sales(uint8_t *tape, size_t records)
+{
+    struct drawing d = {tape, records, 0};
+    while (d.filled < records) {
+        uint8_t customer = any_customer();
+        add(&d, 4, 0, customer, draw(12));
+        for (size_t sales = 1 + draw(4); sales > 0; sales--)
+            add(&d, 6, any_bench(), customer, 1 + draw(6));
+    }
+}
+
 /* ---- books ---- */
 
 static uint32_t *record_of(uint32_t *book, size_t record)
@@ -309,6 +320,15 @@ static size_t any_in_use(const uint32_t *book, size_t first, size_t count)
 static size_t any_line(const uint32_t *book)
 {
     return any_in_use(book, LINES, 128);
+}
+
+/* A line in which tokens wait, if some tries find one. */
+static size_t any_waiting(const uint32_t *book)
+{
+    size_t line = any_line(book);
+    for (int tries = 0; tries < 20 && book[GS_WORD(line, COUNT)] == 0; tries++)
+        line = any_line(book);
+    return line;
 }
 
 /* Any record but the desk's, each sort as often as another. */
@@ -401,11 +421,22 @@ static void bend_less(enum form form, uint32_t *book)
         record[SALES] = record[COUNT];
 }
 
+void take_out(uint32_t *record, uint32_t token)
+{
+    uint32_t kept = 0;
+    for (size_t i = 0; i < record[COUNT]; i++)
+        if (record[CELL + i] != token)
+            record[CELL + kept++] = record[CELL + i];
+    for (size_t i = kept; i < record[COUNT]; i++)
+        record[CELL + i] = 0;
+    record[COUNT] = kept;
+}
+
 /* One token of a line is dead: it goes from the desk's view of the customer. In a slip book that may be any token of a
    slip, so that the slip is dead in part. */
 static void bend_dead(enum form form, const uint32_t *tokens, size_t n, uint32_t *book)
 {
-    size_t place = any_line(book), at = 0;
+    size_t place = any_waiting(book), at = 0;
     const uint32_t *line = record_of(book, place);
     uint32_t *view = record_of(book, CUSTOMER_VIEWS + (place - LINES) % 16);
     if (line[COUNT] == 0 || line[COUNT] > 32 || line[SALES] == 0 || line[SALES] > 16 || view[COUNT] > 32)
@@ -419,13 +450,7 @@ static void bend_dead(enum form form, const uint32_t *tokens, size_t n, uint32_t
             return;
         dead = tokens[at + draw(slip[1])];
     }
-    uint32_t kept = 0;
-    for (size_t i = 0; i < view[COUNT]; i++)
-        if (view[CELL + i] != dead)
-            view[CELL + kept++] = view[CELL + i];
-    for (size_t i = kept; i < view[COUNT]; i++)
-        view[CELL + i] = 0;
-    view[COUNT] = kept;
+    take_out(view, dead);
 }
 
 /* Other first tokens in a till and the desk's view of it. */

@@ -22,6 +22,9 @@ void draw_parties(void);
    are tokens enough. */
 void draw_tape(uint8_t *tape, size_t records, int joining);
 
+/* A tape of updates and sales alone, after which what was bought waits. */
+void draw_sales(uint8_t *tape, size_t records);
+
 /* Any entry: mostly one that is well formed, or nearly. */
 struct entry draw_entry(void);
 
@@ -30,6 +33,9 @@ void bend_book(enum form form, const uint32_t *tokens, size_t n, uint32_t *book)
 
 /* Changes one word, or rarely every word to the highest number there is. */
 void spoil_book(const uint32_t *tokens, size_t n, uint32_t *book);
+
+/* A token goes from a record that holds at most 32; the others keep their order. */
+void take_out(uint32_t *record, uint32_t token);
 
 void put_entry(uint8_t *part, struct entry entry);
 

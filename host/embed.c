@@ -1,5 +1,5 @@
 /* A day with the book: loads a token list and a book, applies a tape, saves the book, and prints what was refused and the
-   balance of each bench that has joined.
+   balance of each bench that has joined. With a 15 it prints which token is dead, counted from 0 in the line's tokens.
 
        embed tokens.rec book.rec tape.rec
        embed book.rec                          makes an empty book, if there is no file of that name */
@@ -13,7 +13,7 @@
 #include "gingerstall.h"
 
 enum { ROOM = 1 << 20, PATH = 4096 };
-static uint8_t file[ROOM], verdicts[ROOM / GS_TAPE_BYTES];
+static uint8_t file[ROOM], verdicts[ROOM / GS_TAPE_BYTES], seconds[ROOM / GS_TAPE_BYTES];
 static uint32_t tokens[ROOM / 4], book[GS_BOOK_WORDS];
 
 static void fail(const char *what, const char *path)
@@ -65,7 +65,9 @@ static void make_empty(const char *path)
 static void tell(size_t steps)
 {
     for (size_t i = 0; i < steps; i++)
-        if (verdicts[i] != 0)
+        if (verdicts[i] == 15)
+            printf("step %zu: refused 15, token %d is dead\n", i, seconds[i]);
+        else if (verdicts[i] != 0)
             printf("step %zu: refused %d\n", i, verdicts[i]);
     for (int bench = 0; bench < GS_BENCHES; bench++)
         if (book[GS_WORD(GS_BENCH_VIEW(bench), GS_IN_USE)] == 1)
@@ -82,7 +84,7 @@ static int run(const char *list, const char *filed, const char *tape)
     uint8_t answer = gs_book_from_bytes(file, load(filed), book, GS_BOOK_WORDS);
     size_t bytes = load(tape), steps = bytes / GS_TAPE_BYTES;
     if (answer == 0)
-        answer = gs_run(tokens, listed / 4, book, GS_BOOK_WORDS, file, bytes, verdicts, steps);
+        answer = gs_run(tokens, listed / 4, book, GS_BOOK_WORDS, file, bytes, verdicts, steps, seconds, steps);
     if (answer != 0) {
         printf("refused %d\n", answer);
         return answer;

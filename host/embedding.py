@@ -19,8 +19,13 @@ update customer 3 by 5
 sell bench 1 customer 3 count 2
 sell bench 1 customer 3 count 4
 clear bench 1 customer 3
+sell bench 1 customer 3 count 1
+update customer 3 by 0
+sell bench 1 customer 3 count 2
+clear bench 1 customer 3
 """
-TOLD = "step 6: refused 11\nbench 1: 2\nbench 6: 0\n"
+BALANCES = "bench 1: 2\nbench 6: 0\n"
+TOLD = "step 6: refused 11\nstep 11: refused 15, token 2 is dead\n" + BALANCES
 
 
 # ---- what this machine has ----
@@ -125,7 +130,7 @@ def days(room, command):
     expect("an empty book", ("", 0), day("book.rec"))
     expect("an empty book's bytes", struct.pack("<6372I", 1, *[0] * 6371), book.read_bytes())
     expect("a day", (TOLD, 0), day("tokens.rec", room / "book.rec", "tape.rec"))
-    expect("a day without steps", (TOLD.split("\n", 1)[1], 0), day("tokens.rec", "book.rec", "none.rec"))
+    expect("a day without steps", (BALANCES, 0), day("tokens.rec", "book.rec", "none.rec"))
     expect("what is left beside the book", [], list(room.glob("*.new")))
     saved = book.read_bytes()
     expect("a book over a book", ("book.rec: is there already\n", 2), day("book.rec"))

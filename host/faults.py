@@ -28,10 +28,29 @@ FAULTS = [
         "a slip judged by its first token when its line is cleared",
         "size_t n = waiting(d, tokens), held = d->customer_view[COUNT];\n",
         """size_t n = waiting(d, tokens), held = d->customer_view[COUNT];
-    if (d->form == SLIP)
-        for (n = 0; n < d->line[SALES]; n++)
-            tokens[n] = d->line[CELL + 2 * n];
+    for (size_t slip = 0, i = 0; d->form == SLIP && slip < d->line[SALES]; slip++)
+        for (size_t left = d->line[CELL + 2 * slip + 1]; left > 0; left--)
+            tokens[i++] = d->line[CELL + 2 * slip];
 """,
+    ),
+    (
+        "a place counted in slips: the slip book's second number isn't in opened tokens",
+        """            return i;
+    return CELLS;
+""",
+        """        {
+            size_t slip = 0, opened = d->line[CELL + 1];
+            while (d->form == SLIP && opened <= i)
+                opened += d->line[CELL + 2 * ++slip + 1];
+            return d->form == SLIP ? slip : i;
+        }
+    return CELLS;
+""",
+    ),
+    (
+        "a second number left standing: a run writes it with a 15 alone",
+        "        seconds[i] = (uint8_t)(answer >> 8);\n",
+        "        if (verdicts[i] == 15)\n            seconds[i] = (uint8_t)(answer >> 8);\n",
     ),
     (
         "a slip that holds its last token",
@@ -109,6 +128,11 @@ FAULTS = [
         "a length not asked: a tape that ends within a record",
         "bytes % 8 != 0 || count != bytes / 8",
         "count != bytes / 8",
+    ),
+    (
+        "a length let pass: a second buffer that is too long",
+        "second_count != bytes / 8",
+        "second_count < bytes / 8",
     ),
     (
         "an order of bytes: a book on file with the highest first",

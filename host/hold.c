@@ -19,8 +19,8 @@ static const struct {
     size_t offset, size, width;
 } PARTS[] = {
 #define PART(name) {#name, offsetof(struct lent, name), sizeof LENT->name, sizeof LENT->name[0]}
-    PART(before), PART(tokens),   PART(book),  PART(opened), PART(fields),
-    PART(tape),   PART(verdicts), PART(bytes), PART(part),   PART(after),
+    PART(before),   PART(tokens),  PART(book),  PART(opened), PART(fields), PART(tape),
+    PART(verdicts), PART(seconds), PART(bytes), PART(part),   PART(after),
 #undef PART
 };
 
@@ -59,12 +59,13 @@ static int same(size_t hand, size_t proved)
     return hand == proved && memcmp(&LENT[HAND], &LENT[PROVED], sizeof LENT[0]) == 0;
 }
 
-static void hold(const char *call, size_t hand, size_t proved)
+/* The numbers that were answered, by a name for the report, and all that was lent. */
+static void hold(const char *call, const char *what, size_t hand, size_t proved)
 {
     if (same(hand, proved))
         return;
     if (hand != proved)
-        differs(call, "answer", NO_PLACE, hand, proved);
+        differs(call, what, NO_PLACE, hand, proved);
     for (size_t part = 0; part < sizeof PARTS / sizeof PARTS[0]; part++)
         for (size_t place = 0; place < PARTS[part].size / PARTS[part].width; place++)
             if (cell(HAND, part, place) != cell(PROVED, part, place))
@@ -74,14 +75,17 @@ static void hold(const char *call, size_t hand, size_t proved)
 /* ---- the calls ---- */
 
 /* One call to each ledger; l is its table and b what it was lent. */
-#define BOTH(name, type, expression)                 \
+#define ASK(type, expression)                        \
     type said[2];                                    \
     for (int side = HAND; side <= PROVED; side++) {  \
         const struct ledger *l = &LEDGERS[side];     \
         struct lent *b = &LENT[side];                \
         said[side] = expression;                     \
-    }                                                \
-    hold(name, said[HAND], said[PROVED]);            \
+    }
+
+#define BOTH(name, type, expression)                 \
+    ASK(type, expression)                            \
+    hold(name, "answer", said[HAND], said[PROVED]);  \
     return said[HAND]
 
 uint8_t both_empty(struct counts c)
@@ -94,10 +98,13 @@ uint8_t both_sound(enum form form, struct counts c)
     BOTH("sound", uint8_t, l->sound[form](b->tokens, c.tokens, b->book, c.book));
 }
 
-uint8_t both_step(enum form form, struct counts c, struct entry e)
+/* Both of its numbers, each by itself, so that the report says which of them differs. */
+uint16_t both_step(enum form form, struct counts c, struct entry e)
 {
-    BOTH("step", uint8_t,
-         l->step[form](b->tokens, c.tokens, b->book, c.book, e.kind, e.bench, e.customer, e.zero, e.amount));
+    ASK(uint16_t, l->step[form](b->tokens, c.tokens, b->book, c.book, e.kind, e.bench, e.customer, e.zero, e.amount))
+    hold("step", "verdict", GS_VERDICT(said[HAND]), GS_VERDICT(said[PROVED]));
+    hold("step", "second number", GS_SECOND(said[HAND]), GS_SECOND(said[PROVED]));
+    return said[HAND];
 }
 
 uint8_t both_open(struct counts c)
@@ -133,7 +140,8 @@ uint8_t both_write(struct counts c, struct entry e)
 static uint8_t run(int side, enum form form, struct counts c)
 {
     struct lent *b = &LENT[side];
-    return LEDGERS[side].run[form](b->tokens, c.tokens, b->book, c.book, b->tape, c.tape, b->verdicts, c.verdicts);
+    return LEDGERS[side].run[form](b->tokens, c.tokens, b->book, c.book, b->tape, c.tape, b->verdicts, c.verdicts,
+                                   b->seconds, c.seconds);
 }
 
 /* A run that differs is made again over the first record, the first two and so on, so that the report names the step. */
@@ -142,11 +150,11 @@ static void find_step(enum form form, struct counts c, const struct lent *start)
     for (size_t count = 1; count <= c.verdicts && 8 * count <= c.tape; count++) {
         struct counts some = c;
         some.tape = 8 * count;
-        some.verdicts = count;
+        some.verdicts = some.seconds = count;
         LENT[HAND] = LENT[PROVED] = *start;
         STANDING.step = (long)count - 1;
         uint8_t hand = run(HAND, form, some);
-        hold("run", hand, run(PROVED, form, some));
+        hold("run", "answer", hand, run(PROVED, form, some));
     }
     LENT[HAND] = LENT[PROVED] = *start;
     STANDING.step = -1;
@@ -162,6 +170,6 @@ uint8_t both_run(enum form form, struct counts c)
     find_step(form, c, &start);
     hand = run(HAND, form, c);
     proved = run(PROVED, form, c);
-    hold("run", hand, proved);
+    hold("run", "answer", hand, proved);
     disagrees("run", "what was done twice", NO_PLACE, hand, proved);
 }

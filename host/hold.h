@@ -17,6 +17,7 @@ struct lent {
     uint32_t fields[SMALL_ROOM];
     uint8_t tape[TAPE_ROOM];
     uint8_t verdicts[TAPE_ROOM];
+    uint8_t seconds[TAPE_ROOM];
     uint8_t bytes[BYTES_ROOM];
     uint8_t part[SMALL_ROOM];
     uint32_t after[SMALL_ROOM];
@@ -28,7 +29,7 @@ void share(void);
 
 /* The counts that go with what is lent. */
 struct counts {
-    size_t tokens, book, opened, tape, verdicts, bytes, fields, part;
+    size_t tokens, book, opened, tape, verdicts, seconds, bytes, fields, part;
 };
 
 /* Where the test stands, for the report; a step of -1 says that the call isn't one of a tape's steps. */
@@ -47,7 +48,7 @@ void disagrees(const char *things, const char *what, size_t place, size_t first,
 
 uint8_t both_empty(struct counts c);
 uint8_t both_sound(enum form form, struct counts c);
-uint8_t both_step(enum form form, struct counts c, struct entry e);
+uint16_t both_step(enum form form, struct counts c, struct entry e);
 uint8_t both_run(enum form form, struct counts c);
 uint8_t both_open(struct counts c);
 uint8_t both_to_bytes(struct counts c);

@@ -320,14 +320,16 @@ static size_t waiting(const struct desk *d, uint32_t *tokens)
     return d->line[COUNT];
 }
 
-static int all_in_view(const struct desk *d)
+/* The place among the tokens that wait in the line, counted from 0, of the first that isn't in the desk's view of the
+   customer; CELLS, which is no place, if all are. */
+static size_t first_dead(const struct desk *d)
 {
     uint32_t tokens[CELLS];
     size_t n = waiting(d, tokens), held = d->customer_view[COUNT];
     for (size_t i = 0; i < n; i++)
         if (place_of(d->customer_view + CELL, held, tokens[i]) == held)
-            return 0;
-    return 1;
+            return i;
+    return CELLS;
 }
 
 /* The document's table from 4 on, row by row. */
@@ -360,7 +362,7 @@ static uint8_t judge_step(const struct desk *d, uint8_t kind, uint64_t n)
         return 13;
     if (authenticates && d->till[CELL] != d->bench_view[CELL])
         return 14;
-    if (kind == CLEAR && !all_in_view(d))
+    if (kind == CLEAR && first_dead(d) < CELLS)
         return 15;
     return 0;
 }
@@ -487,16 +489,18 @@ static void do_step(const struct desk *d, uint8_t kind, uint32_t n)
     }
 }
 
-static uint8_t step(enum form form, const uint32_t *tokens, size_t n, uint32_t *book, struct entry e)
+/* Answers the verdict in the low byte and the second number in the high one, which is 0 but with a 15. */
+static uint16_t step(enum form form, const uint32_t *tokens, size_t n, uint32_t *book, struct entry e)
 {
     uint8_t verdict = judge_entry(e);
     if (verdict != 0)
         return verdict;
     struct desk d = desk_of(form, tokens, n, book, e);
     verdict = judge_step(&d, e.kind, e.amount);
+    size_t second = verdict == 15 ? first_dead(&d) : 0;
     if (verdict == 0)
         do_step(&d, e.kind, e.amount);
-    return verdict;
+    return (uint16_t)(second << 8 | verdict);
 }
 
 /* ---- what is called from outside ---- */
@@ -521,16 +525,16 @@ uint8_t hand_slip_sound(const uint32_t *tokens, size_t n, const uint32_t *book, 
     return sound(SLIP, tokens, n, book, words) ? 0 : 1;
 }
 
-uint8_t hand_step(const uint32_t *tokens, size_t n, uint32_t *book, size_t words, uint8_t kind, uint8_t bench,
-                  uint8_t customer, uint8_t zero, uint32_t amount)
+uint16_t hand_step(const uint32_t *tokens, size_t n, uint32_t *book, size_t words, uint8_t kind, uint8_t bench,
+                   uint8_t customer, uint8_t zero, uint32_t amount)
 {
     if (!sound(PLAIN, tokens, n, book, words))
         return 1;
     return step(PLAIN, tokens, n, book, (struct entry){kind, bench, customer, zero, amount});
 }
 
-uint8_t hand_slip_step(const uint32_t *tokens, size_t n, uint32_t *book, size_t words, uint8_t kind, uint8_t bench,
-                       uint8_t customer, uint8_t zero, uint32_t amount)
+uint16_t hand_slip_step(const uint32_t *tokens, size_t n, uint32_t *book, size_t words, uint8_t kind, uint8_t bench,
+                        uint8_t customer, uint8_t zero, uint32_t amount)
 {
     if (!sound(SLIP, tokens, n, book, words))
         return 1;
@@ -539,27 +543,30 @@ uint8_t hand_slip_step(const uint32_t *tokens, size_t n, uint32_t *book, size_t 
 
 /* A step leaves a sound book sound, so a run asks once. */
 static uint8_t run(enum form form, const uint32_t *tokens, size_t n, uint32_t *book, size_t words, const uint8_t *tape,
-                   size_t bytes, uint8_t *verdicts, size_t count)
+                   size_t bytes, uint8_t *verdicts, size_t count, uint8_t *seconds, size_t second_count)
 {
     if (!sound(form, tokens, n, book, words))
         return 1;
-    if (bytes % 8 != 0 || count != bytes / 8)
+    if (bytes % 8 != 0 || count != bytes / 8 || second_count != bytes / 8)
         return 16;
-    for (size_t i = 0; i < count; i++)
-        verdicts[i] = step(form, tokens, n, book, entry_of(tape + 8 * i));
+    for (size_t i = 0; i < count; i++) {
+        uint16_t answer = step(form, tokens, n, book, entry_of(tape + 8 * i));
+        verdicts[i] = (uint8_t)answer;
+        seconds[i] = (uint8_t)(answer >> 8);
+    }
     return 0;
 }
 
 uint8_t hand_run(const uint32_t *tokens, size_t n, uint32_t *book, size_t words, const uint8_t *tape, size_t bytes,
-                 uint8_t *verdicts, size_t count)
+                 uint8_t *verdicts, size_t count, uint8_t *seconds, size_t second_count)
 {
-    return run(PLAIN, tokens, n, book, words, tape, bytes, verdicts, count);
+    return run(PLAIN, tokens, n, book, words, tape, bytes, verdicts, count, seconds, second_count);
 }
 
 uint8_t hand_slip_run(const uint32_t *tokens, size_t n, uint32_t *book, size_t words, const uint8_t *tape, size_t bytes,
-                      uint8_t *verdicts, size_t count)
+                      uint8_t *verdicts, size_t count, uint8_t *seconds, size_t second_count)
 {
-    return run(SLIP, tokens, n, book, words, tape, bytes, verdicts, count);
+    return run(SLIP, tokens, n, book, words, tape, bytes, verdicts, count, seconds, second_count);
 }
 
 uint8_t hand_slip_open(const uint32_t *tokens, size_t n, const uint32_t *slips, size_t words, uint32_t *plain,

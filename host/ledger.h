@@ -11,15 +11,15 @@ uint8_t hand_empty(uint32_t *book, size_t words);
 uint8_t hand_sound(const uint32_t *tokens, size_t n, const uint32_t *book, size_t words);
 uint8_t hand_slip_sound(const uint32_t *tokens, size_t n, const uint32_t *book, size_t words);
 
-uint8_t hand_step(const uint32_t *tokens, size_t n, uint32_t *book, size_t words, uint8_t kind, uint8_t bench,
-                  uint8_t customer, uint8_t zero, uint32_t amount);
-uint8_t hand_slip_step(const uint32_t *tokens, size_t n, uint32_t *book, size_t words, uint8_t kind, uint8_t bench,
-                       uint8_t customer, uint8_t zero, uint32_t amount);
+uint16_t hand_step(const uint32_t *tokens, size_t n, uint32_t *book, size_t words, uint8_t kind, uint8_t bench,
+                   uint8_t customer, uint8_t zero, uint32_t amount);
+uint16_t hand_slip_step(const uint32_t *tokens, size_t n, uint32_t *book, size_t words, uint8_t kind, uint8_t bench,
+                        uint8_t customer, uint8_t zero, uint32_t amount);
 
 uint8_t hand_run(const uint32_t *tokens, size_t n, uint32_t *book, size_t words, const uint8_t *tape, size_t bytes,
-                 uint8_t *verdicts, size_t count);
+                 uint8_t *verdicts, size_t count, uint8_t *seconds, size_t second_count);
 uint8_t hand_slip_run(const uint32_t *tokens, size_t n, uint32_t *book, size_t words, const uint8_t *tape, size_t bytes,
-                      uint8_t *verdicts, size_t count);
+                      uint8_t *verdicts, size_t count, uint8_t *seconds, size_t second_count);
 
 uint8_t hand_slip_open(const uint32_t *tokens, size_t n, const uint32_t *slips, size_t words, uint32_t *plain,
                        size_t plain_words);

@@ -39,6 +39,10 @@
 #define GS_CELLS 4 /* the first of them */
 #define GS_WORD(record, word) (GS_RECORD_WORDS * (record) + (word))
 
+/* The two numbers that a step answers. */
+#define GS_VERDICT(answer) ((answer) & 255)
+#define GS_SECOND(answer) ((answer) >> 8)
+
 #ifdef __cplusplus
 extern "C" {
 #endif
@@ -52,23 +56,26 @@ uint8_t gs_sound(const uint32_t *tokens, size_t n, const uint32_t *book, size_t 
 /* The same of a slip book. */
 uint8_t gs_slip_sound(const uint32_t *tokens, size_t n, const uint32_t *book, size_t words);
 
-/* Does one step in a plain book, told by the five fields of its record. Answers its verdict, 0 to 15: 0 if it was
-   granted and the book has changed accordingly, 1 if the book isn't sound over the list. */
-uint8_t gs_step(const uint32_t *tokens, size_t n, uint32_t *book, size_t words, uint8_t kind, uint8_t bench,
-                uint8_t customer, uint8_t zero, uint32_t amount);
+/* Does one step in a plain book, told by the five fields of its record. Answers two numbers. The low byte is its verdict,
+   0 to 15: 0 if it was granted and the book has changed accordingly, 1 if the book isn't sound over the list. The high
+   byte is the second number: with a 15 the place, counted from 0 in the line's tokens, of the first that isn't in the
+   desk's view of the customer, and 0 with every other verdict. */
+uint16_t gs_step(const uint32_t *tokens, size_t n, uint32_t *book, size_t words, uint8_t kind, uint8_t bench,
+                 uint8_t customer, uint8_t zero, uint32_t amount);
 
-/* The same in a slip book. */
-uint8_t gs_slip_step(const uint32_t *tokens, size_t n, uint32_t *book, size_t words, uint8_t kind, uint8_t bench,
-                     uint8_t customer, uint8_t zero, uint32_t amount);
+/* The same in a slip book. The second number counts in the tokens that the line's slips open to. */
+uint16_t gs_slip_step(const uint32_t *tokens, size_t n, uint32_t *book, size_t words, uint8_t kind, uint8_t bench,
+                      uint8_t customer, uint8_t zero, uint32_t amount);
 
 /* Does the steps of a tape in a plain book. Answers 1 if the book isn't sound over the list, 16 if the tape isn't 8
-   bytes for each of the count verdicts. Otherwise 0: each granted step is done, and verdicts[i] is what record i got. */
+   bytes for each of the count verdicts or the seconds aren't as many as these. Otherwise 0: each granted step is done,
+   verdicts[i] is what record i got, and seconds[i] its second number. */
 uint8_t gs_run(const uint32_t *tokens, size_t n, uint32_t *book, size_t words, const uint8_t *tape, size_t bytes,
-               uint8_t *verdicts, size_t count);
+               uint8_t *verdicts, size_t count, uint8_t *seconds, size_t second_count);
 
 /* The same in a slip book. */
 uint8_t gs_slip_run(const uint32_t *tokens, size_t n, uint32_t *book, size_t words, const uint8_t *tape, size_t bytes,
-                    uint8_t *verdicts, size_t count);
+                    uint8_t *verdicts, size_t count, uint8_t *seconds, size_t second_count);
 
 /* Opens a slip book into a plain one, whatever that held, and answers 0. Answers 1 if the slip book isn't sound over the
    list or the plain one hasn't 6,372 words. */

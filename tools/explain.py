@@ -50,7 +50,8 @@ VERDICTS = {
     14: ("till and desk don't have the same token in front",
          "If it's the bench that the desk knows, stock it: both sides get the same tokens."),
     15: ("a token of the line is dead, since the customer has updated after the sale",
-         "The line can't be paid as it stands; bench and customer have to settle it between them."),
+         "The line can't be paid as it stands; bench and customer have to settle it between them."
+         " The second number, which a program gets with it, is the place of the first dead token in the line, 0 for the newest: all before it live."),
 }
 
 Listing = collections.namedtuple("Listing", "verdicts is_cut customers benches")

@@ -1,15 +1,15 @@
--- A sound slip book and its opened book: step for step the same verdict, and the slip book stays sound and opens to the plain one.
+-- A sound slip book and its opened book: step for step the same numbers, and the slip book stays sound and opens to the plain one.
 use mathlib.Core.Path.{_≡_, refl, sym, ap, _∙_}
 use mathlib.Core.Logic.{⊎-elim}
 use Rattle.rules.specs.declared.Hall.{Hall}
 use Rattle.rules.specs.declared.Entry.{Entry}
-use Rattle.rules.specs.Lists.{ℕ, _+_, true, List, [], _∷_}
+use Rattle.rules.specs.Lists.{ℕ, _+_, true, List}
 use Rattle.rules.specs.Records.{recordAt}
 use Rattle.rules.specs.Sound.{total}
 use Rattle.rules.specs.Form.{plain}
 use Rattle.rules.specs.Slips.{openBook, slipSound, slip}
 use Rattle.rules.specs.Steps.{changes, effect}
-use Rattle.rules.specs.Verdicts.{verdict, step, Ran, steps}
+use Rattle.rules.specs.Verdicts.{Stepped, verdict, step, Ran, onward, steps}
 use Rattle.rules.proofs.Tests.{same}
 use Rattle.rules.proofs.Stepping.{step-granted, step-refused, step-verdict}
 use Rattle.rules.proofs.Named.{Each}
@@ -18,7 +18,7 @@ use Rattle.laws.proofs.ReflectSlips.{SlipSound, slip-sound-facts, slip-sound-te
 use Rattle.rules.proofs.Granted.{granted-good, granted-kind}
 use Rattle.keeps.proofs.Fits.{fits, changes-apart}
 use Rattle.keeps.proofs.Keeps.{brings, plain-keeps, plain-money, Money, along-sound}
-use Rattle.agree.proofs.SameVerdict.{same-total, same-verdict}
+use Rattle.agree.proofs.SameVerdict.{same-total, same-verdict, same-second}
 use Rattle.agree.proofs.OpenChanges.{fine-opens, fine-slip-sound}
 use Rattle.agree.proofs.SameStep.{slip-fine, slip-regular}
 
@@ -54,48 +54,44 @@ slip-money h ts b e v =
     ∙ plain-money h ts (openBook h ts b) e (v′ h ts b e v)
     ∙ ap (λ (n : ℕ). n + brings (e .kind) e) (same-total h ts b (ok h ts b e v))
 
--- ---- any step, and any number of them
-pub record SameStep (h : Hall) (ts b : List ℕ) (e : Entry) : Type 0 where
-  pub numbers : step slip h ts b e .number ≡ step plain h ts (openBook h ts b) e .number
-  pub books : openBook h ts (step slip h ts b e .cells) ≡ step plain h ts (openBook h ts b) e .cells
+-- ---- any step, and any number of them: what they give, with the book opened, is what the opened book gives
+abbrev pub openStep : Hall → List ℕ → Stepped → Stepped
+openStep h ts s = record { number = s .number; second = s .second; cells = openBook h ts (s .cells) }
 
-pub same-step : (h : Hall) (ts b : List ℕ) (e : Entry) → slipSound h ts b ≡ true → SameStep h ts b e
+abbrev pub openRan : Hall → List ℕ → Ran → Ran
+openRan h ts r =
+    record { answer = r .answer; verdicts = r .verdicts; seconds = r .seconds; book = openBook h ts (r .book) }
+
+alike : {s s′ : Stepped} → s .number ≡ s′ .number → s .second ≡ s′ .second → s .cells ≡ s′ .cells → s ≡ s′
+alike {s} {s′} p q r =
+    ap (λ (n : ℕ). record { number = n; second = s .second; cells = s .cells }) p
+    ∙ ap (λ (n : ℕ). record { number = s′ .number; second = n; cells = s .cells }) q
+    ∙ ap (λ (x : List ℕ). record { number = s′ .number; second = s′ .second; cells = x }) r
+
+pub same-step : (h : Hall) (ts b : List ℕ) (e : Entry) → slipSound h ts b ≡ true
+    → openStep h ts (step slip h ts b e) ≡ step plain h ts (openBook h ts b) e
 same-step h ts b e good =
     let numbers : step slip h ts b e .number ≡ step plain h ts (openBook h ts b) e .number =
     step-verdict slip h ts b e ∙ same-verdict h ts b e good ∙ sym (step-verdict plain h ts (openBook h ts b) e) in
-    record {
-      numbers = numbers;
-      books =
-          ⊎-elim
-          (λ (z : step slip h ts b e .number ≡ 0).
-          ap (openBook h ts) (step-granted slip h ts b e z)
-          ∙ effect-opens h ts b e (sym (step-verdict slip h ts b e) ∙ z)
-          ∙ sym (step-granted plain h ts (openBook h ts b) e (sym numbers ∙ z)))
-          (λ (z : step slip h ts b e .number ≡ 0 → ⊥).
-          ap (openBook h ts) (step-refused slip h ts b e z)
-          ∙ sym (step-refused plain h ts (openBook h ts b) e (λ q. z (numbers ∙ q))))
-          (same (step slip h ts b e .number) 0);
-    }
+    alike numbers (same-second h ts b e good)
+    (⊎-elim
+    (λ (z : step slip h ts b e .number ≡ 0).
+    ap (openBook h ts) (step-granted slip h ts b e z)
+    ∙ effect-opens h ts b e (sym (step-verdict slip h ts b e) ∙ z)
+    ∙ sym (step-granted plain h ts (openBook h ts b) e (sym numbers ∙ z)))
+    (λ (z : step slip h ts b e .number ≡ 0 → ⊥).
+    ap (openBook h ts) (step-refused slip h ts b e z)
+    ∙ sym (step-refused plain h ts (openBook h ts b) e (λ q. z (numbers ∙ q))))
+    (same (step slip h ts b e .number) 0))
 
-pub record Same (h : Hall) (ts b : List ℕ) (es : List Entry) (r : Ran) : Type 0 where
-  pub verdicts : r .verdicts ≡ steps plain h ts (openBook h ts b) es .verdicts
-  pub books : openBook h ts (r .book) ≡ steps plain h ts (openBook h ts b) es .book
-
-abbrev pub SameRun : Hall → List ℕ → List ℕ → List Entry → Type 0
-SameRun h ts b es = Same h ts b es (steps slip h ts b es)
-
-pub same-run : (h : Hall) (ts b : List ℕ) (es : List Entry) → slipSound h ts b ≡ true → SameRun h ts b es
+pub same-run : (h : Hall) (ts b : List ℕ) (es : List Entry) → slipSound h ts b ≡ true
+    → openRan h ts (steps slip h ts b es) ≡ steps plain h ts (openBook h ts b) es
 unfolding steps
 same-run h ts =
     along-sound slip slip-keeps h ts
-    (Same h ts)
-    (λ b good. record { verdicts = refl; books = refl })
+    (λ b es r. openRan h ts r ≡ steps plain h ts (openBook h ts b) es)
+    (λ b good. refl)
     (λ b e es rest good later.
-    let one : SameStep h ts b e = same-step h ts b e good in
-    record {
-      verdicts =
-          ap (λ (n : ℕ). n ∷ rest .verdicts) (one .numbers)
-          ∙ ap (λ (ns : List ℕ). step plain h ts (openBook h ts b) e .number ∷ ns)
-          (later .verdicts ∙ ap (λ (x : List ℕ). steps plain h ts x es .verdicts) (one .books));
-      books = later .books ∙ ap (λ (x : List ℕ). steps plain h ts x es .book) (one .books);
-    })
+    let one : openStep h ts (step slip h ts b e) ≡ step plain h ts (openBook h ts b) e = same-step h ts b e good in
+    ap (onward (step slip h ts b e)) later
+    ∙ ap (λ (s : Stepped). onward s (steps plain h ts (s .cells) es)) one)

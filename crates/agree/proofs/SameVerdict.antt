@@ -1,11 +1,12 @@
--- A sound slip book and its opened book get the same verdict.
-use mathlib.Core.Path.{_≡_, refl, ap, _∙_, fun-ext}
+-- A sound slip book and its opened book get the same verdict, and the same second number.
+use mathlib.Core.Path.{_≡_, refl, sym, ap, _∙_, fun-ext}
+use mathlib.Core.Logic.{⊎-elim}
 use Prim.Native.Nat.{_≤_, _<_}
 use native.Mathlib.Omega.{arith}
 use borrow.Author.Tests.{eqb-true, not-false}
 use Rattle.rules.specs.declared.Hall.{Hall}
 use Rattle.rules.specs.declared.Entry.{Entry}
-use Rattle.rules.specs.Lists.{ℕ, _+_, _*_, Bool, true, false, not, _&&_, _||_, eqb, List, _∷_, length, drop, getD, occ, isIn, every, sumOf}
+use Rattle.rules.specs.Lists.{ℕ, _+_, _*_, Bool, true, false, not, _&&_, _||_, ltb, eqb, List, _∷_, length, drop, getD, occ, sumOf}
 use Rattle.rules.specs.Hall.{mostHeld, mostBudget, Carnet, View, BenchView, Till, Line, number, records, views, customerViews}
 use Rattle.rules.specs.Answers.{Rule, _⇐_, first}
 use Rattle.rules.specs.Records.{inUse, amount, count, sales, cells, held, recordAt}
@@ -13,14 +14,16 @@ use Rattle.rules.specs.Tape.{BenchAuthenticates, DeskAuthenticates, Clear, kind
 use Rattle.rules.specs.Sound.{total, mostTotal}
 use Rattle.rules.specs.Form.{plain}
 use Rattle.rules.specs.Slips.{slipTokens, openBook, slipSound, slip}
-use Rattle.rules.specs.Steps.{dealt, theView, theBenchView, theTill, theLine}
-use Rattle.rules.specs.Verdicts.{authenticates, table, verdict}
+use Rattle.rules.specs.Steps.{dealt, theBenchView, theTill}
+use Rattle.rules.specs.Verdicts.{authenticates, waiting, deadAt, table, verdict, step}
 use Rattle.laws.proofs.Reflect.{Book, sound-facts}
 use Rattle.laws.proofs.Books.{facts-at, dealt-few}
 use Rattle.laws.proofs.Places.{inside-below}
 use Rattle.laws.proofs.Opened.{open-same, open-line, open-word, opened-use, opened-amount, opened-count, opened-sales}
 use Rattle.laws.proofs.ReflectSlips.{SlipSound, slip-sound-facts, slip-line-facts}
+use Rattle.rules.proofs.Tests.{same}
 use Rattle.rules.proofs.Granted.{inside-hall-bench, inside-hall-customer}
+use Rattle.rules.proofs.Dead.{second-none, second-dead, step-second, dead-clear, dead-placed}
 use Rattle.laws.proofs.SlipLines.{open-held}
 
 -- ---- tables that answer alike
@@ -94,19 +97,29 @@ module _ (h : Hall) (ts b : List ℕ) (e : Entry) (good : slipSound h ts b ≡ t
       let m : e .bench < h .benches = inside-hall-bench h e p u in
       rw (open-same h ts b (ok .long) (number h (Till (e .bench))) (omega arith), open-same h ts b (ok .long) (number h (BenchView (e .bench))) (omega arith)))
 
+  -- what a clear looks at: the tokens that the line stands for, and the first of them that the view lacks
+  module _ (p : inHall h e ≡ true) (k : e .kind ≡ kindOf Clear) where
+    same-waiting : waiting plain h ts (openBook h ts b) e ≡ waiting slip h ts b e
+    unfolding occ
+    same-waiting =
+        let m : e .bench < h .benches = inside-hall-bench h e p (ap usesBench k) in
+        let c : e .customer < h .customers = inside-hall-customer h e p (ap usesCustomer k) in
+        line-tokens h ts b ok (number h (Line (e .bench) (e .customer))) (omega arith) (inside-below h (Line (e .bench) (e .customer)) (m, c))
+
+    same-dead : deadAt plain h ts (openBook h ts b) e ≡ deadAt slip h ts b e
+    unfolding occ
+    same-dead =
+        let c : e .customer < h .customers = inside-hall-customer h e p (ap usesCustomer k) in
+        rw (open-same h ts b (ok .long) (number h (View (e .customer))) (omega arith), same-waiting)
+
   same-clear : inHall h e ≡ true
-      → is e Clear && not (every (λ t. isIn t (held (theView h (openBook h ts b) e))) (held (theLine h (openBook h ts b) e)))
-      ≡ is e Clear && not (every (λ t. isIn t (held (theView h b e))) (slipTokens ts (theLine h b e)))
-  unfolding occ
+      → is e Clear && ltb (deadAt plain h ts (openBook h ts b) e) (length (waiting plain h ts (openBook h ts b) e))
+      ≡ is e Clear && ltb (deadAt slip h ts b e) (length (waiting slip h ts b e))
   same-clear p =
       under (is e Clear) _ _ (λ q.
       let k : e .kind ≡ kindOf Clear = eqb-true _ _ q in
-      let m : e .bench < h .benches = inside-hall-bench h e p (ap usesBench k) in
-      let c : e .customer < h .customers = inside-hall-customer h e p (ap usesCustomer k) in
-      rw (
-        open-same h ts b (ok .long) (number h (View (e .customer))) (omega arith),
-        line-tokens h ts b ok (number h (Line (e .bench) (e .customer))) (omega arith) (inside-below h (Line (e .bench) (e .customer)) (m, c)),
-      ))
+      ap (λ (x : List ℕ). ltb (deadAt plain h ts (openBook h ts b) e) (length x)) (same-waiting p k)
+      ∙ ap (λ (n : ℕ). ltb n (length (waiting slip h ts b e))) (same-dead p k))
 
   same-later : inHall h e ≡ true → first (drop 3 (table slip h ts b e)) ≡ first (drop 3 (table plain h ts (openBook h ts b) e))
   unfolding table entryRules
@@ -138,3 +151,17 @@ module _ (h : Hall) (ts b : List ℕ) (e : Entry) (good : slipSound h ts b ≡ t
       (first-cons 2 (not (wellFormed e)) (drop 2 (table slip h ts b e)) (drop 2 (table plain h ts (openBook h ts b) e)) (λ w.
       first-cons 3 (not (inHall h e)) (drop 3 (table slip h ts b e)) (drop 3 (table plain h ts (openBook h ts b) e)) (λ p.
       same-later (not-false _ p))))
+
+  pub same-second : step slip h ts b e .second ≡ step plain h ts (openBook h ts b) e .second
+  same-second =
+      let o : List ℕ = openBook h ts b in
+      let v : ℕ = verdict slip h ts b e in
+      ⊎-elim
+      (λ (z : verdict slip h ts b e ≡ 15).
+      step-second slip h ts b e ∙ second-dead slip h ts b e v z
+      ∙ sym (same-dead (dead-placed slip h ts b e z) (dead-clear slip h ts b e z))
+      ∙ sym (second-dead plain h ts o e (verdict plain h ts o e) (sym same-verdict ∙ z)) ∙ sym (step-second plain h ts o e))
+      (λ (z : verdict slip h ts b e ≡ 15 → ⊥).
+      step-second slip h ts b e ∙ second-none slip h ts b e v z
+      ∙ sym (second-none plain h ts o e (verdict plain h ts o e) (λ q. z (same-verdict ∙ q))) ∙ sym (step-second plain h ts o e))
+      (same v 15)

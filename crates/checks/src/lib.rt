@@ -106,10 +106,13 @@ pub fn sale(carnet: u32, line: u32, sales: u32, n: u32) -> u8
     0
 }
 
-pub fn clear(lives: bool) -> u8
-    ensures { λ r. ⌜ r ≡ first (clearRules lives) ⌝ }
+pub fn clear(dead: usize, n: usize) -> u8
+    ensures { λ r. ⌜ r ≡ first (clearRules dead n) ⌝ }
 {
-    if lives { 0 } else { 15 }
+    if dead < n {
+        return 15;
+    }
+    0
 }
 
 pub fn authenticate(used: u32, till: u32, view: u32, mine: u32, theirs: u32) -> u8

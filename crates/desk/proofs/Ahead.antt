@@ -11,10 +11,12 @@ use Rattle.rules.specs.declared.Entry.{Entry}
 use Rattle.rules.specs.Lists.{ℕ, zero, suc, _+_, _*_, _-_, true, List, [], _∷_, _++_, length, take, drop}
 use Rattle.rules.specs.Tape.{entryOf, entries}
 use Rattle.rules.specs.Form.{Form}
-use Rattle.rules.specs.Verdicts.{step, Ran, steps}
+use Rattle.rules.specs.declared.Reply.{Reply}
+use Rattle.rules.specs.Verdicts.{Stepped, StepGives, step, Ran, RunGives, idle, onward, steps}
+use Rattle.rules.proofs.Running.{then, steps-answer}
 use Rattle.keeps.proofs.Keeps.{Kept}
 
--- one verdict more
+-- one number more
 take-set : (out : List ℕ) (i v : ℕ) → i < length out → take (i + 1) (set out i v) ≡ take i out ++ (v ∷ [])
 take-set [] i v l = absurd (omega arith)
 take-set (x ∷ out) zero v l = refl
@@ -37,55 +39,70 @@ behind-next n tape i l =
     ap (λ (k : ℕ). entries k (drop (8 * i) tape)) s
     ∙ ap (λ (x : List ℕ). entryOf (drop (8 * i) tape) ∷ entries (n - (i + 1)) x) (drop-drop 8 (8 * i) tape ∙ ap (λ (k : ℕ). drop k tape) t)
 
+-- the numbers laid into the first i cells of each buffer
+abbrev so-far : ℕ → List ℕ → List ℕ → Ran
+so-far i vs ss = record { answer = 0; verdicts = take i vs; seconds = take i ss; book = [] }
+
+one-more : (i : ℕ) (vs ss : List ℕ) (s : Stepped) (rest : Ran) → i < length vs → i < length ss
+    → then (so-far (i + 1) (set vs i (s .number)) (set ss i (s .second))) rest ≡ then (so-far i vs ss) (onward s rest)
+one-more i vs ss s rest l m =
+    rw (
+      take-set vs i (s .number) l,
+      take-set ss i (s .second) m,
+      append-assoc (take i vs) (s .number ∷ []) (rest .verdicts),
+      append-assoc (take i ss) (s .second ∷ []) (rest .seconds),
+    )
+
 module _ (f : Form) (h : Hall) (ts b₀ tape : List ℕ) (n : ℕ) where
   abbrev whole : Ran
   whole = steps f h ts b₀ (entries n tape)
 
-  pub record Ahead (i : ℕ) (out b : List ℕ) : Type 0 where
+  pub record Ahead (i : ℕ) (vs ss b : List ℕ) : Type 0 where
     pub good : f .good h ts b ≡ true
-    pub size : length out ≡ n
-    pub book : steps f h ts b (behind n tape i) .book ≡ whole .book
-    pub verdicts : take i out ++ steps f h ts b (behind n tape i) .verdicts ≡ whole .verdicts
+    pub size : length vs ≡ n
+    pub second-size : length ss ≡ n
+    pub all : then (so-far i vs ss) (steps f h ts b (behind n tape i)) ≡ whole
 
-  pub starts : (out : List ℕ) → f .good h ts b₀ ≡ true → length out ≡ n → Ahead 0 out b₀
-  starts out good size =
+  pub starts : (vs ss : List ℕ) → f .good h ts b₀ ≡ true → length vs ≡ n → length ss ≡ n → Ahead 0 vs ss b₀
+  starts vs ss good size second-size =
       let z : n - 0 ≡ n = omega arith in
       record {
         good = good;
         size = size;
-        book = ap (λ (k : ℕ). steps f h ts b₀ (entries k tape) .book) z;
-        verdicts = ap (λ (k : ℕ). steps f h ts b₀ (entries k tape) .verdicts) z;
+        second-size = second-size;
+        all =
+            ap (λ (k : ℕ). then (so-far 0 vs ss) (steps f h ts b₀ (entries k tape))) z
+            ∙ ap (λ (a : ℕ). record { answer = a; verdicts = whole .verdicts; seconds = whole .seconds; book = whole .book })
+            (sym (steps-answer f h ts b₀ (entries n tape)));
       }
 
-  pub goes-on : Kept f → (i : ℕ) (out b : List ℕ) (e : Entry) (v : ℕ) (b′ : List ℕ) → i < n → Ahead i out b
-      → e ≡ entryOf (drop (8 * i) tape) → v ≡ step f h ts b e .number → b′ ≡ step f h ts b e .cells
-      → Ahead (i + 1) (set out i v) b′
+  pub goes-on : Kept f → (i : ℕ) (vs ss b : List ℕ) (e : Entry) (r : Reply) (b′ : List ℕ) → i < n → Ahead i vs ss b
+      → e ≡ entryOf (drop (8 * i) tape) → StepGives (step f h ts b e) r b′
+      → Ahead (i + 1) (set vs i (r .verdict)) (set ss i (r .second)) b′
   unfolding steps
-  goes-on kept i out b e v b′ l a is number cells =
+  goes-on kept i vs ss b e r b′ l a is gives =
       let next : behind n tape i ≡ e ∷ behind n tape (i + 1) = behind-next n tape i l ∙ ap (λ (x : Entry). x ∷ behind n tape (i + 1)) (sym is) in
       record {
-        good = ap (f .good h ts) cells ∙ kept .by-step h ts b e (a .good);
-        size = length-set out i v ∙ a .size;
-        book =
-            ap (λ (x : List ℕ). steps f h ts x (behind n tape (i + 1)) .book) cells
-            ∙ ap (λ (es : List Entry). steps f h ts b es .book) (sym next)
-            ∙ a .book;
-        verdicts =
-            ap (λ (xs : List ℕ). xs ++ steps f h ts b′ (behind n tape (i + 1)) .verdicts) (take-set out i v (omega (arith, l, a .size)))
-            ∙ append-assoc (take i out) (v ∷ []) (steps f h ts b′ (behind n tape (i + 1)) .verdicts)
-            ∙ ap (λ (x : ℕ). take i out ++ (x ∷ steps f h ts b′ (behind n tape (i + 1)) .verdicts)) number
-            ∙ ap (λ (x : List ℕ). take i out ++ (step f h ts b e .number ∷ steps f h ts x (behind n tape (i + 1)) .verdicts)) cells
-            ∙ ap (λ (es : List Entry). take i out ++ steps f h ts b es .verdicts) (sym next)
-            ∙ a .verdicts;
+        good = ap (f .good h ts) (gives .cells) ∙ kept .by-step h ts b e (a .good);
+        size = length-set vs i (r .verdict) ∙ a .size;
+        second-size = length-set ss i (r .second) ∙ a .second-size;
+        all =
+            rw (gives .number, gives .second, gives .cells)
+            (one-more i vs ss (step f h ts b e) (steps f h ts (step f h ts b e .cells) (behind n tape (i + 1))) (omega (arith, l, a .size)) (omega (arith, l, a .second-size))
+            ∙ ap (λ (es : List Entry). then (so-far i vs ss) (steps f h ts b es)) (sym next)
+            ∙ a .all);
       }
 
-  pub ends : (i : ℕ) (out b : List ℕ) → n ≤ i → Ahead i out b → (b ≡ whole .book) × (out ≡ whole .verdicts)
+  pub ends : (i : ℕ) (vs ss b : List ℕ) → n ≤ i → Ahead i vs ss b → RunGives whole 0 b vs ss
   unfolding steps
-  ends i out b l a =
-      let none : behind n tape i ≡ [] = behind-none n tape i l in (
-        ap (λ (es : List Entry). steps f h ts b es .book) (sym none) ∙ a .book,
-        sym (append-nil out)
-            ∙ ap (λ (xs : List ℕ). xs ++ []) (sym (take-all i out (omega (arith, l, a .size))))
-            ∙ ap (λ (es : List Entry). take i out ++ steps f h ts b es .verdicts) (sym none)
-            ∙ a .verdicts,
-      )
+  ends i vs ss b l a =
+      let done : then (so-far i vs ss) (idle b) ≡ whole =
+      ap (λ (es : List Entry). then (so-far i vs ss) (steps f h ts b es)) (sym (behind-none n tape i l)) ∙ a .all in
+      let full : (xs : List ℕ) → length xs ≡ n → xs ≡ take i xs ++ [] =
+      λ xs q. sym (append-nil (take i xs) ∙ take-all i xs (omega (arith, l, q))) in
+      record {
+        answer = ap (λ (r : Ran). r .answer) done;
+        verdicts = full vs (a .size) ∙ ap (λ (r : Ran). r .verdicts) done;
+        seconds = full ss (a .second-size) ∙ ap (λ (r : Ran). r .seconds) done;
+        book = ap (λ (r : Ran). r .book) done;
+      }

@@ -1,5 +1,5 @@
 -- From a book that is known to be sound to what each kind's function asks for, and back from its answer to the step's.
-use mathlib.Core.Path.{_≡_, refl, sym, ap, _∙_, subst}
+use mathlib.Core.Path.{_≡_, refl, sym, ap, _∙_}
 use mathlib.Core.Logic.{_⊎_, inl, inr, ⊎-elim}
 use borrow.Author.Tests.{not-false}
 use Rattle.rules.specs.declared.Hall.{Hall}
@@ -8,18 +8,31 @@ use Rattle.rules.specs.Lists.{ℕ, true, List, occ}
 use Rattle.rules.specs.Answers.{first, Answer, Gives}
 use Rattle.rules.specs.Tape.{JoinCustomer, JoinBench, OpenLine, Update, Stock, Sell, BenchAuthenticates, DeskAuthenticates, Clear, TopUp, kindOf, usesBench, entryRules}
 use Rattle.rules.specs.Form.{Form}
-use Rattle.rules.specs.Steps.{effect}
-use Rattle.rules.specs.Verdicts.{table, step}
-use Rattle.rules.proofs.Answering.{passed as rules-passed, refused, first-refuses}
+use Rattle.rules.specs.declared.Reply.{Reply}
+use Rattle.rules.specs.Verdicts.{Stepped, StepGives, step}
+use Rattle.rules.proofs.Answering.{passed as rules-passed}
 use Rattle.rules.proofs.ByKind.{IsKind, by-kind}
 use Rattle.rules.proofs.Granted.{formed-kind}
+use Rattle.rules.proofs.Dead.{second-other}
 use Rattle.kinds.proofs.Ready.{Works}
-use Rattle.kinds.specs.Kinds.{Placed, Passed, Listed, authenticate}
+use Rattle.kinds.specs.Kinds.{Placed, Passed, Listed, authenticate, numbered}
 use Rattle.kinds.proofs.Table.{step-bench-authenticates, step-desk-authenticates}
+use Rattle.steps.specs.Replies.{alone}
 use Rattle.desk.specs.Known.{Known}
 
-pub as-step : (a b : Answer) (n : ℕ) (cells : List ℕ) → a ≡ b → Gives b n cells → Gives a n cells
-as-step a b n cells q g = subst (λ (x : Answer). Gives x n cells) (sym q) g
+module _ (f : Form) (h : Hall) (ts b : List ℕ) (e : Entry) {a : Answer} (is : step f h ts b e ≡ numbered f h ts b e a) where
+  -- a kind that has a second number
+  pub as-step : {r : Reply} {cells : List ℕ} → StepGives (numbered f h ts b e a) r cells → StepGives (step f h ts b e) r cells
+  as-step g = rw is g
+
+  -- no kind but a clear has one
+  pub as-other : {n : ℕ} {cells : List ℕ} → (e .kind ≡ kindOf Clear → ⊥) → Gives a n cells → StepGives (step f h ts b e) (alone n) cells
+  as-other other g =
+      record {
+        number = g .number ∙ ap (λ (s : Stepped). s .number) (sym is);
+        second = sym (second-other f h ts b e other);
+        cells = g .cells ∙ ap (λ (s : Stepped). s .cells) (sym is);
+      }
 
 -- no kind but the two that authenticate, which one function serves
 pub record Other (k : ℕ) : Type 0 where
@@ -52,13 +65,6 @@ other-authenticates =
     }
 
 module _ (f : Form) (h : Hall) (ts b : List ℕ) (e : Entry) where
-  -- refused with 2 or 3: the rest of the table is not asked
-  pub step-malformed : (n : ℕ) → f .good h ts b ≡ true → n ≡ first (entryRules h e) → (n ≡ 0 → ⊥) → Gives (step f h ts b e) n b
-  unfolding step table first
-  step-malformed n good is bad =
-      let number : n ≡ first (table f h ts b e) = rw good (first-refuses (entryRules h e) _ n is bad) in
-      refused (table f h ts b e) (effect f h ts b e) b n number bad
-
   module _ (w : Works f) (k : Known f h ts b) (formed : first (entryRules h e) ≡ 0) where
     pub passed : Passed f h ts b e
     passed = record { good = k .good; formed = formed }
@@ -80,6 +86,6 @@ module _ (f : Form) (h : Hall) (ts b : List ℕ) (e : Entry) where
         ⊎-elim (λ (q : e .kind ≡ kindOf BenchAuthenticates). ap usesBench q) (λ (q : e .kind ≡ kindOf DeskAuthenticates). ap usesBench q)
         (other-authenticates (e .kind) kind o)
 
-    pub step-authenticates : Other (e .kind) → step f h ts b e ≡ authenticate h b e
+    pub step-authenticates : Other (e .kind) → step f h ts b e ≡ numbered f h ts b e (authenticate h b e)
     step-authenticates o =
         ⊎-elim (step-bench-authenticates f h ts b e passed) (step-desk-authenticates f h ts b e passed) (other-authenticates (e .kind) kind o)

@@ -3,6 +3,7 @@
 use Prim.Native.Nat.{ℕ}
 use mathlib.Core.List.{List}
 use Rattle.rules.proofs.Determined.{Determined, determined, both}
+use Rattle.gingerstall.proofs.Told.{unpacked}
 use Rattle.gingerstall.proofs.gs_empty.Reads as gs-empty-call
 use Rattle.gingerstall.proofs.gs_sound.Reads as gs-sound-call
 use Rattle.gingerstall.proofs.gs_slip_sound.Reads as gs-slip-sound-call
@@ -27,16 +28,16 @@ gs-slip-sound-determined : (κs : _) (a : _) → Determined (gs-slip-sound-call.
 gs-slip-sound-determined κs a = determined _ _ _ (λ z e p. p)
 
 gs-step-determined : (κs : _) (a : _) → Determined {O = ℕ × List ℕ} (gs-step-call.Learnt κs a) (λ z e. (z, e .1 .0 .now))
-gs-step-determined κs a = determined _ _ _ (λ z e p. both (p .number) (p .cells))
+gs-step-determined κs a = determined _ _ _ (λ z e p. both (unpacked p) (p .cells))
 
 gs-slip-step-determined : (κs : _) (a : _) → Determined {O = ℕ × List ℕ} (gs-slip-step-call.Learnt κs a) (λ z e. (z, e .1 .0 .now))
-gs-slip-step-determined κs a = determined _ _ _ (λ z e p. both (p .number) (p .cells))
+gs-slip-step-determined κs a = determined _ _ _ (λ z e p. both (unpacked p) (p .cells))
 
-gs-run-determined : (κs : _) (a : _) → Determined {O = ℕ × (List ℕ × List ℕ)} (gs-run-call.Learnt κs a) (λ z e. (z, (e .1 .0 .now, e .1 .1 .1 .0 .now)))
-gs-run-determined κs a = determined _ _ _ (λ z e p. both (p .answer) (both (p .book) (p .verdicts)))
+gs-run-determined : (κs : _) (a : _) → Determined {O = ℕ × (List ℕ × (List ℕ × List ℕ))} (gs-run-call.Learnt κs a) (λ z e. (z, (e .1 .0 .now, (e .1 .1 .1 .0 .now, e .1 .1 .1 .1 .0 .now))))
+gs-run-determined κs a = determined _ _ _ (λ z e p. both (p .answer) (both (p .book) (both (p .verdicts) (p .seconds))))
 
-gs-slip-run-determined : (κs : _) (a : _) → Determined {O = ℕ × (List ℕ × List ℕ)} (gs-slip-run-call.Learnt κs a) (λ z e. (z, (e .1 .0 .now, e .1 .1 .1 .0 .now)))
-gs-slip-run-determined κs a = determined _ _ _ (λ z e p. both (p .answer) (both (p .book) (p .verdicts)))
+gs-slip-run-determined : (κs : _) (a : _) → Determined {O = ℕ × (List ℕ × (List ℕ × List ℕ))} (gs-slip-run-call.Learnt κs a) (λ z e. (z, (e .1 .0 .now, (e .1 .1 .1 .0 .now, e .1 .1 .1 .1 .0 .now))))
+gs-slip-run-determined κs a = determined _ _ _ (λ z e p. both (p .answer) (both (p .book) (both (p .verdicts) (p .seconds))))
 
 gs-slip-open-determined : (κs : _) (a : _) → Determined {O = ℕ × List ℕ} (gs-slip-open-call.Learnt κs a) (λ z e. (z, e .1 .1 .0 .now))
 gs-slip-open-determined κs a = determined _ _ _ (λ z e p. both (p .number) (p .cells))

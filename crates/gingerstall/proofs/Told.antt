@@ -3,21 +3,34 @@ use mathlib.Core.Path.{_≡_, refl, ap, _∙_, subst}
 use native.Mathlib.Omega.{arith}
 use lib.ListN.{set}
 use borrow.Author.Tests.{eq-eqb, ne-eqb}
-use Rattle.rules.specs.Lists.{ℕ, Bool, cond, List, [], _∷_, length}
+use Rattle.rules.specs.Lists.{ℕ, _+_, _*_, _/_, _%_, Bool, cond, List, [], _∷_, length}
 use Rattle.rules.specs.declared.Hall.{Hall}
 use Rattle.rules.specs.declared.Entry.{Entry}
+use Rattle.rules.specs.declared.Reply.{Reply}
 use Rattle.rules.specs.Answers.{Answer, Gives}
+use Rattle.rules.specs.Verdicts.{Stepped, StepGives}
 use Rattle.rules.specs.Tape as paper
 use Rattle.rules.specs.Tape.{readAt}
 use Rattle.tape.specs.Reading.{reading, numberOf, entryIn, onPaper}
 use Rattle.tape.specs.declared.Reading.{Reading}
 use Rattle.tape.proofs.Reader.{nothing-lost}
-use Rattle.gingerstall.specs.Outer.{fieldsOf, readFields}
+use Rattle.gingerstall.specs.Outer.{Packed, fieldsOf, readFields}
 
 -- an answer of the record that five arguments make
 pub of-entry : (answer : Entry → Answer) (e e′ : Entry) (n : ℕ) (cells : List ℕ) → e ≡ e′
     → Gives (answer e) n cells → Gives (answer e′) n cells
 of-entry answer e e′ n cells is says = subst (λ (x : Entry). Gives (answer x) n cells) is says
+
+-- a step of that record, with its two numbers in one
+pub of-step : (answer : Entry → Stepped) (e e′ : Entry) (r : Reply) (n : ℕ) (cells : List ℕ) → e ≡ e′
+    → StepGives (answer e) r cells → (n % 256 ≡ r .verdict) × (n / 256 ≡ r .second) → Packed (answer e′) n cells
+of-step answer e e′ r n cells is says packed =
+    subst (λ (x : Entry). Packed (answer x) n cells) is
+    (record { low = packed .0 ∙ says .number; high = packed .1 ∙ says .second; cells = says .cells })
+
+-- and the one says which the two are
+pub unpacked : {s : Stepped} {n : ℕ} {cells : List ℕ} → Packed s n cells → n ≡ s .number + 256 * s .second
+unpacked p = omega (arith, p .low, p .high)
 
 -- 0 for yes
 pub of-test : (r : ℕ) (t u : Bool) → r ≡ cond t 0 1 → t ≡ u → r ≡ cond u 0 1

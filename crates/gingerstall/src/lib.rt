@@ -1,6 +1,7 @@
 // The library for C and Rust: the main hall's functions under names of their own, for whatever a caller lends.
 // A slice is a pointer and a count of elements. Each promise is that of the function below it.
 ghost use mathlib.Core.Path.{_≡_};
+ghost use Prim.Native.Nat.{_/_, _%_};
 ghost use lib.ListN.{length};
 ghost use Rattle.rules.specs.Answers.{Gives};
 ghost use Rattle.rules.specs.Lists.{cond, []};
@@ -12,10 +13,11 @@ ghost use Rattle.rules.specs.Form.{plain};
 ghost use Rattle.rules.specs.Verdicts.{step, run, RunGives};
 ghost use Rattle.rules.specs.Slips.{slip, slipSound, openInto};
 ghost use Rattle.tape.specs.Reading.{numberOf, entryIn};
-ghost use Rattle.gingerstall.specs.Outer.{entryFrom, fieldsOf, readFields};
+ghost use Rattle.gingerstall.specs.Outer.{Packed, entryFrom, fieldsOf, readFields};
 use book::forms::Form;
 use book::writing;
 use rules::Entry;
+use rules::Reply;
 use tape::Cursor;
 use tape::Got;
 
@@ -62,7 +64,13 @@ pub extern "C" fn gs_slip_sound(tokens: &[u32], book: &[u32]) -> u8
     unsound(slips::is_sound(tokens, book))
 }
 
-// ---- a step
+// ---- a step: the low byte of the answer is its verdict, the high byte its second number
+
+fn packed(reply: Reply) -> u16
+    ensures { λ r. ⌜ (r % 256 ≡ reply .verdict) × (r / 256 ≡ reply .second) ⌝ }
+{
+    reply.verdict as u16 + 256 * reply.second as u16
+}
 
 #[no_mangle]
 pub extern "C" fn gs_step(
@@ -73,15 +81,11 @@ pub extern "C" fn gs_step(
     customer: u8,
     zero: u8,
     amount: u32,
-) -> u8
-    ensures { λ r. ⌜ Gives (step plain mainHall (now (tokens .entry)) (now (book .entry)) (entryFrom kind bench customer zero amount)) r (now (book .exit)) ⌝ }
+) -> u16
+    ensures { λ r. ⌜ Packed (step plain mainHall (now (tokens .entry)) (now (book .entry)) (entryFrom kind bench customer zero amount)) r (now (book .exit)) ⌝ }
 {
-    desk::step(
-        Form::Plain,
-        tokens,
-        book,
-        entry(kind, bench, customer, zero, amount),
-    )
+    let e = entry(kind, bench, customer, zero, amount);
+    packed(desk::step(Form::Plain, tokens, book, e))
 }
 
 #[no_mangle]
@@ -93,24 +97,26 @@ pub extern "C" fn gs_slip_step(
     customer: u8,
     zero: u8,
     amount: u32,
-) -> u8
-    ensures { λ r. ⌜ Gives (step slip mainHall (now (tokens .entry)) (now (book .entry)) (entryFrom kind bench customer zero amount)) r (now (book .exit)) ⌝ }
+) -> u16
+    ensures { λ r. ⌜ Packed (step slip mainHall (now (tokens .entry)) (now (book .entry)) (entryFrom kind bench customer zero amount)) r (now (book .exit)) ⌝ }
 {
-    desk::step(
-        Form::Slip,
-        tokens,
-        book,
-        entry(kind, bench, customer, zero, amount),
-    )
+    let e = entry(kind, bench, customer, zero, amount);
+    packed(desk::step(Form::Slip, tokens, book, e))
 }
 
 // ---- a run over a whole tape
 
 #[no_mangle]
-pub extern "C" fn gs_run(tokens: &[u32], book: &mut [u32], tape: &[u8], verdicts: &mut [u8]) -> u8
-    ensures { λ r. ⌜ RunGives (run plain mainHall (now (tokens .entry)) (now (book .entry)) (now (tape .entry)) (now (verdicts .entry))) r (now (book .exit)) (now (verdicts .exit)) ⌝ }
+pub extern "C" fn gs_run(
+    tokens: &[u32],
+    book: &mut [u32],
+    tape: &[u8],
+    verdicts: &mut [u8],
+    seconds: &mut [u8],
+) -> u8
+    ensures { λ r. ⌜ RunGives (run plain mainHall (now (tokens .entry)) (now (book .entry)) (now (tape .entry)) (now (verdicts .entry)) (now (seconds .entry))) r (now (book .exit)) (now (verdicts .exit)) (now (seconds .exit)) ⌝ }
 {
-    desk::run(Form::Plain, tokens, book, tape, verdicts)
+    desk::run(Form::Plain, tokens, book, tape, verdicts, seconds)
 }
 
 #[no_mangle]
@@ -119,10 +125,11 @@ pub extern "C" fn gs_slip_run(
     book: &mut [u32],
     tape: &[u8],
     verdicts: &mut [u8],
+    seconds: &mut [u8],
 ) -> u8
-    ensures { λ r. ⌜ RunGives (run slip mainHall (now (tokens .entry)) (now (book .entry)) (now (tape .entry)) (now (verdicts .entry))) r (now (book .exit)) (now (verdicts .exit)) ⌝ }
+    ensures { λ r. ⌜ RunGives (run slip mainHall (now (tokens .entry)) (now (book .entry)) (now (tape .entry)) (now (verdicts .entry)) (now (seconds .entry))) r (now (book .exit)) (now (verdicts .exit)) (now (seconds .exit)) ⌝ }
 {
-    desk::run(Form::Slip, tokens, book, tape, verdicts)
+    desk::run(Form::Slip, tokens, book, tape, verdicts, seconds)
 }
 
 #[no_mangle]

@@ -5,14 +5,14 @@ use Prim.Native.Nat.{_≤_, _<_}
 use native.Mathlib.Omega.{arith}
 use Rattle.rules.specs.declared.Hall.{Hall}
 use Rattle.rules.specs.declared.Entry.{Entry}
-use Rattle.rules.specs.Lists.{ℕ, _*_, true, _||_, eqb, List, [], _∷_, _++_, length, occ, _+_, cond}
+use Rattle.rules.specs.Lists.{ℕ, true, _||_, eqb, List, [], _∷_, _++_, length, occ, _+_, cond}
 use Rattle.rules.specs.Hall.{Carnet, View, Till, BenchView, Line, number}
 use Rattle.rules.specs.Records.{inUse, recordAt}
 use Rattle.rules.specs.Tape.{JoinCustomer, JoinBench, OpenLine, Sell, Clear, TopUp, kindOf, usesBench, usesCustomer, entries}
 use Rattle.rules.specs.Form.{Form, plain}
 use Rattle.rules.specs.Steps.{changes, effect}
 use Rattle.rules.specs.Sound.{total, sound}
-use Rattle.rules.specs.Verdicts.{verdict, step, Ran, steps, run}
+use Rattle.rules.specs.Verdicts.{verdict, step, Ran, idle, onward, steps, oneEach, run}
 use Rattle.rules.proofs.Stepping.{step-cases}
 use Rattle.rules.proofs.Along.{along}
 use Rattle.rules.proofs.Running.{then, steps-answer, run-does, run-granted, run-joined}
@@ -124,9 +124,9 @@ module _ (f : Form) (keeps : Keeps f) (h : Hall) (ts : List ℕ) where
 
   -- what holds along a tape may count on a sound book at each step
   pub along-sound : (R : List ℕ → List Entry → Ran → Type 0)
-      → ((b : List ℕ) → f .good h ts b ≡ true → R b [] (record { answer = 0; verdicts = []; book = b }))
+      → ((b : List ℕ) → f .good h ts b ≡ true → R b [] (idle b))
       → ((b : List ℕ) (e : Entry) (es : List Entry) (rest : Ran) → f .good h ts b ≡ true → R (step f h ts b e .cells) es rest
-      → R b (e ∷ es) (record { answer = 0; verdicts = step f h ts b e .number ∷ rest .verdicts; book = rest .book }))
+      → R b (e ∷ es) (onward (step f h ts b e) rest))
       → (b : List ℕ) (es : List Entry) → f .good h ts b ≡ true → R b es (steps f h ts b es)
   along-sound R none more =
       along f h ts (λ b es r. f .good h ts b ≡ true → R b es r) none
@@ -135,27 +135,27 @@ module _ (f : Form) (keeps : Keeps f) (h : Hall) (ts : List ℕ) where
   pub steps-keep : (b : List ℕ) (es : List Entry) → f .good h ts b ≡ true → f .good h ts (steps f h ts b es .book) ≡ true
   steps-keep = along-sound (λ b es r. f .good h ts (r .book) ≡ true) (λ b good. good) (λ b e es rest good later. later)
 
-  run-keeps : (b tape out : List ℕ) → run f h ts b tape out .answer ≡ 0 → f .good h ts (run f h ts b tape out .book) ≡ true
-  run-keeps b tape out z =
-      let g = run-granted f h ts b tape out z in
-      ap (λ (r : Ran). f .good h ts (r .book)) (run-does f h ts b tape out (g .0) (g .1))
-      ∙ steps-keep b (entries (length out) tape) (g .0)
+  run-keeps : (b tape vs ss : List ℕ) → run f h ts b tape vs ss .answer ≡ 0 → f .good h ts (run f h ts b tape vs ss .book) ≡ true
+  run-keeps b tape vs ss z =
+      let g = run-granted f h ts b tape vs ss z in
+      ap (λ (r : Ran). f .good h ts (r .book)) (run-does f h ts b tape vs ss (g .0) (g .1))
+      ∙ steps-keep b (entries (length vs) tape) (g .0)
 
   -- so a granted run over two tapes joined is one run after the other, whatever the second tape
-  run-goes-on : (b t t′ out out′ : List ℕ) → run f h ts b t out .answer ≡ 0 → length t′ ≡ 8 * length out′
-      → run f h ts b (t ++ t′) (out ++ out′) ≡ then (run f h ts b t out) (run f h ts (run f h ts b t out .book) t′ out′)
-  run-goes-on b t t′ out out′ z whole =
-      run-joined f h ts b t t′ out out′ z
-      (ap (λ (r : Ran). r .answer) (run-does f h ts (run f h ts b t out .book) t′ out′ (run-keeps b t out z) whole)
-      ∙ steps-answer f h ts (run f h ts b t out .book) (entries (length out′) t′))
+  run-goes-on : (b t t′ vs vs′ ss ss′ : List ℕ) → run f h ts b t vs ss .answer ≡ 0 → oneEach t′ vs′ ss′ ≡ true
+      → run f h ts b (t ++ t′) (vs ++ vs′) (ss ++ ss′) ≡ then (run f h ts b t vs ss) (run f h ts (run f h ts b t vs ss .book) t′ vs′ ss′)
+  run-goes-on b t t′ vs vs′ ss ss′ z each =
+      run-joined f h ts b t t′ vs vs′ ss ss′ z
+      (ap (λ (r : Ran). r .answer) (run-does f h ts (run f h ts b t vs ss .book) t′ vs′ ss′ (run-keeps b t vs ss z) each)
+      ∙ steps-answer f h ts (run f h ts b t vs ss .book) (entries (length vs′) t′))
 
 -- ---- so, of a form
 pub record Kept (f : Form) : Type 0 where
   pub by-step : (h : Hall) (ts b : List ℕ) (e : Entry) → f .good h ts b ≡ true → f .good h ts (step f h ts b e .cells) ≡ true
   pub by-steps : (h : Hall) (ts b : List ℕ) (es : List Entry) → f .good h ts b ≡ true → f .good h ts (steps f h ts b es .book) ≡ true
-  pub by-run : (h : Hall) (ts b tape out : List ℕ) → run f h ts b tape out .answer ≡ 0 → f .good h ts (run f h ts b tape out .book) ≡ true
-  pub goes-on : (h : Hall) (ts b t t′ out out′ : List ℕ) → run f h ts b t out .answer ≡ 0 → length t′ ≡ 8 * length out′
-      → run f h ts b (t ++ t′) (out ++ out′) ≡ then (run f h ts b t out) (run f h ts (run f h ts b t out .book) t′ out′)
+  pub by-run : (h : Hall) (ts b tape vs ss : List ℕ) → run f h ts b tape vs ss .answer ≡ 0 → f .good h ts (run f h ts b tape vs ss .book) ≡ true
+  pub goes-on : (h : Hall) (ts b t t′ vs vs′ ss ss′ : List ℕ) → run f h ts b t vs ss .answer ≡ 0 → oneEach t′ vs′ ss′ ≡ true
+      → run f h ts b (t ++ t′) (vs ++ vs′) (ss ++ ss′) ≡ then (run f h ts b t vs ss) (run f h ts (run f h ts b t vs ss .book) t′ vs′ ss′)
 
 pub kept : (f : Form) → Keeps f → Kept f
 kept f keeps =

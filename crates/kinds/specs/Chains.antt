@@ -1,5 +1,5 @@
 -- The table of verdict numbers, from 4 on, one kind at a time: the tests that the kind can meet, over the words that they read.
-use Rattle.rules.specs.Lists.{ℕ, _+_, Bool, not, _&&_, _||_, ltb, eqb, List, [], _∷_}
+use Rattle.rules.specs.Lists.{ℕ, _+_, not, _&&_, _||_, ltb, eqb, List, [], _∷_}
 use Rattle.rules.specs.Hall.{mostHeld, mostSales, mostBudget}
 use Rattle.rules.specs.Answers.{Rule, _⇐_}
 
@@ -37,9 +37,9 @@ unfoldable pub saleRules : ℕ → ℕ → ℕ → ℕ → List Rule
 saleRules carnet line sales n =
     (11 ⇐ ltb carnet n) ∷ (12 ⇐ ltb mostHeld (line + n) || ltb 0 n && eqb sales mostSales) ∷ []
 
--- then, for a clear: whether every token of the line is in the customer's view
-unfoldable pub clearRules : Bool → List Rule
-clearRules lives = (15 ⇐ not lives) ∷ []
+-- then, for a clear: the place of the first dead token, and how many tokens there are
+unfoldable pub clearRules : ℕ → ℕ → List Rule
+clearRules dead n = (15 ⇐ ltb dead n) ∷ []
 
 -- the word on use of the desk's view of a bench; the counts of till and view, and the first cell of each
 unfoldable pub authenticateRules : ℕ → ℕ → ℕ → ℕ → ℕ → List Rule

@@ -1,16 +1,17 @@
 -- A step, one kind at a time, where numbers 1 to 3 let the record pass: the kind's own chain of checks, and what it changes.
 use mathlib.Core.Path.{_≡_}
 use Prim.Native.Nat.{_≤_}
-use Rattle.rules.specs.Lists.{ℕ, _*_, true, List, [], _∷_, _++_, length, getD, every, isIn}
+use Rattle.rules.specs.Lists.{ℕ, _*_, true, List, [], _∷_, _++_, length, getD}
 use Rattle.rules.specs.declared.Hall.{Hall}
 use Rattle.rules.specs.declared.Entry.{Entry}
 use Rattle.rules.specs.Hall.{mostTokens, Carnet, View, BenchView, Till, Line, records}
 use Rattle.rules.specs.Answers.{Rule, first, Answer, answer}
-use Rattle.rules.specs.Records.{words, inUse, amount, count, sales, cells, held, made, recordAt}
+use Rattle.rules.specs.Records.{words, inUse, amount, count, sales, cells, made, recordAt}
 use Rattle.rules.specs.Sound.{total, mostTotal}
 use Rattle.rules.specs.Tape.{entryRules}
 use Rattle.rules.specs.Form.{Form}
 use Rattle.rules.specs.Steps.{Change, _≔_, putAll, dealt, left, joining, updating, stocking, selling, authenticating, clearing, toppingUp, theCarnet, theView, theBenchView, theTill, theLine}
+use Rattle.rules.specs.Verdicts.{Stepped, beside, waiting, deadAt, second}
 use Rattle.kinds.specs.Chains.{joinCustomerRules, joinBenchRules, openRules, updateRules, stockRules, lineRules, saleRules, clearRules, authenticateRules, topUpRules}
 
 -- the first number that applies; where none does, the changes are made
@@ -56,7 +57,7 @@ module _ (h : Hall) (b : List ℕ) (e : Entry) where
   unfoldable pub clear : Form → List ℕ → Answer
   clear f ts =
       judged h b
-      (knownLine ++ clearRules (every (λ t. isIn t (held (theView h b e))) (f .tokens ts (theLine h b e))))
+      (knownLine ++ clearRules (deadAt f h ts b e) (length (waiting f h ts b e)))
       (clearing h b e f ts)
 
   unfoldable pub topUp : Answer
@@ -64,6 +65,10 @@ module _ (h : Hall) (b : List ℕ) (e : Entry) where
       judged h b
       (topUpRules (inUse (theView h b e)) (total h (λ k. recordAt k b)) (mostTotal h (λ k. recordAt k b)) (e .amount))
       (toppingUp h b e)
+
+-- an answer, and the second number that goes with it
+abbrev pub numbered : Form → Hall → List ℕ → List ℕ → Entry → Answer → Stepped
+numbered f h ts b e a = beside (second f h ts b e) a
 
 -- ---- what a kind's function is called with
 -- a record of kind k that numbers 2 and 3 let pass, and a book of the right length for a hall whose sizes multiply in range

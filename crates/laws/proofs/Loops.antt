@@ -1,12 +1,12 @@
 -- Loops that end early: what a test gives of all that is left is what it gives of all.
 use mathlib.Core.Path.{_≡_, refl, sym, ap, _∙_}
 use Prim.Native.Nat.{_≤_, _<_}
-use native.Mathlib.Nat.{zero-add}
+use native.Mathlib.Nat.{zero-add, add-zero}
 use native.Mathlib.Numerals.{add-one}
 use native.Mathlib.Omega.{arith}
 use lib.ListN.{drop-of-length-le}
 use lib.Seq.{drop-cons}
-use Rattle.rules.specs.Lists.{ℕ, suc, _+_, _-_, Bool, true, false, _&&_, List, [], _∷_, length, drop, getD, range, every}
+use Rattle.rules.specs.Lists.{ℕ, suc, _+_, _-_, Bool, true, false, cond, _&&_, List, [], _∷_, length, drop, getD, range, every, firstOf}
 
 -- ---- along a list
 pub list-next : (s : List ℕ) (i : ℕ) → i < length s → drop i s ≡ getD s i 0 ∷ drop (i + 1) s
@@ -34,6 +34,32 @@ module _ (test : ℕ → Bool) (s : List ℕ) where
 
       pub left-yes : test (getD s i 0) ≡ true → Left (i + 1)
       left-yes e = (omega arith, sym (here ∙ rw e))
+
+-- ---- along a list, up to the first of which the test holds
+module _ (test : ℕ → Bool) (s : List ℕ) where
+  abbrev pub Sought : ℕ → Type 0
+  Sought i = (i ≤ length s) × (i + firstOf test (drop i s) ≡ firstOf test s)
+
+  pub sought-all : Sought 0
+  sought-all = (omega arith, zero-add _)
+
+  module _ (i : ℕ) (inv : Sought i) where
+    pub sought-end : length s ≤ i → length s ≡ firstOf test s
+    unfolding firstOf
+    sought-end l =
+        let e : length s ≡ i = omega arith in
+        e ∙ sym (ap (λ (x : List ℕ). i + firstOf test x) (drop-of-length-le s l) ∙ add-zero i) ∙ inv .1
+
+    module _ (l : i < length s) where
+      there : firstOf test s ≡ i + cond (test (getD s i 0)) 0 (suc (firstOf test (drop (i + 1) s)))
+      unfolding firstOf
+      there = sym (inv .1) ∙ ap (λ (x : List ℕ). i + firstOf test x) (list-next s i l)
+
+      pub sought-hit : test (getD s i 0) ≡ true → i ≡ firstOf test s
+      sought-hit e = sym (there ∙ rw e (add-zero i))
+
+      pub sought-miss : test (getD s i 0) ≡ false → Sought (i + 1)
+      sought-miss e = (omega arith, sym (there ∙ rw e (omega arith)))
 
 -- ---- along the n numbers from a on
 pub range-next : (a n i : ℕ) → i < n → range (a + i) (n - i) ≡ (a + i) ∷ range (a + (i + 1)) (n - (i + 1))

@@ -5,7 +5,7 @@ use native.Mathlib.Omega.{arith}
 use lib.ListN.{length-take, length-drop}
 use lib.Seq.{take-take, drop-drop, take-nil, getD-take, getD-drop}
 use borrow.Author.Tests.{eq-eqb, ne-eqb, eqb-true}
-use Rattle.rules.specs.Lists.{ℕ, zero, suc, _+_, _-_, Bool, true, false, cond, eqb, List, [], _∷_, length, take, drop, getD, occ, allDifferent, placeOf, sameList}
+use Rattle.rules.specs.Lists.{ℕ, zero, suc, _+_, _-_, Bool, true, false, cond, eqb, List, [], _∷_, length, take, drop, getD, occ, allDifferent, firstOf, placeOf, sameList}
 use Rattle.rules.specs.Records.{count, cells, held, filled, made}
 use Rattle.rules.specs.Slips.{openSlip, isRun}
 use Rattle.rules.proofs.Tests.{and-left, and-right, true-and}
@@ -36,7 +36,7 @@ drop-take (suc n) (suc m) (x ∷ xs) =
 
 -- ---- places
 pub place-le : (x : ℕ) (ts : List ℕ) → placeOf x ts ≤ length ts
-unfolding placeOf
+unfolding firstOf placeOf
 place-le x [] = omega arith
 place-le x (y ∷ ys) = go (eqb x y) (place-le x ys)
   where
@@ -51,7 +51,7 @@ stands-at (y ∷ ys) zero l = omega (arith, occ-equal y y ys refl)
 stands-at (y ∷ ys) (suc j) l = omega (arith, stands-at ys j (omega arith))
 
 pub place-at : (ts : List ℕ) → allDifferent ts ≡ true → (i : ℕ) → i < length ts → placeOf (getD ts i 0) ts ≡ i
-unfolding placeOf allDifferent
+unfolding firstOf placeOf allDifferent
 place-at [] e i l = absurd (omega arith)
 place-at (y ∷ ys) e zero l = rw (eq-eqb y y refl)
 place-at (y ∷ ys) e (suc j) l =

@@ -33,8 +33,8 @@ entries-take n tape l =
 
 module _ (f : Form) (h : Hall) (ts b : List ℕ) where
   -- a run's verdicts are as many as its records, and their lines are the records'
-  pub records-done : (place n end : ℕ) (tape vs b′ out out′ : List ℕ)
-      → RunGives (steps f h ts b (entries n tape)) 0 b′ vs
+  pub records-done : (place n end : ℕ) (tape vs ss b′ out out′ : List ℕ)
+      → RunGives (steps f h ts b (entries n tape)) 0 b′ vs ss
       → (end ≡ length (stepLines place (entries (length vs) tape) vs))
       × (out′ ≡ written 0 (stepLines place (entries (length vs) tape) vs) out)
       × (end ≤ 63 * length vs)
@@ -43,7 +43,7 @@ module _ (f : Form) (h : Hall) (ts b : List ℕ) where
       × (out′ ≡ written 0 (recordLines f h ts b place (entries n tape)) out)
       × (end ≤ 63 * n)
   unfolding recordLines
-  records-done place n end tape vs b′ out out′ ran put =
+  records-done place n end tape vs ss b′ out out′ ran put =
       let long : length vs ≡ n = ap length (ran .verdicts) ∙ verdicts-length f h ts b (entries n tape) ∙ entries-length n tape in
       let lines : stepLines place (entries (length vs) tape) vs ≡ stepLines place (entries n tape) (steps f h ts b (entries n tape) .verdicts) =
       ap (λ (k : ℕ). stepLines place (entries k tape) vs) long ∙ ap (stepLines place (entries n tape)) (ran .verdicts)

@@ -31,7 +31,7 @@ fn put_steps(out: &mut [u8], place: u64, tape: &[u8], verdicts: &[u8]) -> usize
     end
 }
 
-// Whole records: the steps, each verdict into the lent buffer, and then the lines.
+// Whole records: the steps, the numbers of each into the lent buffers, and then the lines, which have the verdicts alone.
 fn walk_records(
     form: Form,
     h: Hall,
@@ -40,12 +40,13 @@ fn walk_records(
     place: u64,
     tape: &[u8],
     verdicts: &mut [u8],
+    seconds: &mut [u8],
     out: &mut [u8],
 ) -> usize
-    requires { ⌜ Known (formOf form) h (now tokens) (now book) × (length (now tape) ≡ 8 * length (now verdicts)) × (63 * length (now verdicts) ≤ length (now out)) × (place + length (now verdicts) ≤ 9223372036854775807) ⌝ }
+    requires { ⌜ Known (formOf form) h (now tokens) (now book) × (length (now tape) ≡ 8 * length (now verdicts)) × (length (now seconds) ≡ length (now verdicts)) × (63 * length (now verdicts) ≤ length (now out)) × (place + length (now verdicts) ≤ 9223372036854775807) ⌝ }
     ensures { λ r. ⌜ (r ≡ length (recordLines (formOf form) h (now (tokens .entry)) (now (book .entry)) place (entries (length (now (verdicts .entry))) (now (tape .entry))))) × (now (book .exit) ≡ steps (formOf form) h (now (tokens .entry)) (now (book .entry)) (entries (length (now (verdicts .entry))) (now (tape .entry))) .book) × (now (out .exit) ≡ written 0 (recordLines (formOf form) h (now (tokens .entry)) (now (book .entry)) place (entries (length (now (verdicts .entry))) (now (tape .entry)))) (now (out .entry))) × (r ≤ 63 * length (now (verdicts .entry))) ⌝ }
 {
-    desk::run_known(form, h, tokens, book, tape, verdicts);
+    desk::run_known(form, h, tokens, book, tape, verdicts, seconds);
     put_steps(out, place, tape, verdicts)
 }
 
@@ -66,6 +67,8 @@ pub fn walk_part(
     let whole = 8 * n;
     let mut space = [0u8; 1024];
     let verdicts: &mut [u8] = &mut space;
+    let mut untold = [0u8; 1024];
+    let seconds: &mut [u8] = &mut untold;
     let end = walk_records(
         form,
         h,
@@ -74,6 +77,7 @@ pub fn walk_part(
         place,
         &part[..whole],
         &mut verdicts[..n],
+        &mut seconds[..n],
         out,
     );
     text::put_cut(out, end, part.len())

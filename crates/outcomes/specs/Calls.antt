@@ -3,6 +3,7 @@
 use Rattle.rules.specs.Lists.{_≡_, ℕ, _+_, _/_, _%_, List, [], _∷_, _++_, length, take}
 use Rattle.rules.specs.Hall.{mainHall, mostTokens}
 use Rattle.rules.specs.declared.Entry.{Entry}
+use Rattle.rules.specs.declared.Reply.{Reply}
 use Rattle.book.specs.declared.forms.Form.{Form}
 use Rattle.book.specs.declared.forms.Form.the-variants.{Plain}
 use Rattle.book.proofs.writing.make_empty.Reads as make-empty
@@ -22,8 +23,8 @@ pub record Emptied (b : List ℕ) : Type 1 where
   pub granted : result ≡ 0
   pub book-after : exit .0 .now ≡ b
 
--- `desk::run` in the form f, over the book b, a tape and a verdict buffer: it answered n and left b′ and out′
-pub record RunCall (f : Form) (ts b tape out : List ℕ) (n : ℕ) (b′ out′ : List ℕ) : Type 1 where
+-- `desk::run` in the form f, over the book b, a tape and two buffers: it answered n and left b′, vs′ and ss′
+pub record RunCall (f : Form) (ts b tape vs ss : List ℕ) (n : ℕ) (b′ vs′ ss′ : List ℕ) : Type 1 where
   pub lifetimes : _
   pub args : _
   pub result : _
@@ -33,13 +34,15 @@ pub record RunCall (f : Form) (ts b tape out : List ℕ) (n : ℕ) (b′ out′ 
   pub list : args .1 .0 .now ≡ ts
   pub book : args .1 .1 .0 .now ≡ b
   pub tape-lent : args .1 .1 .1 .0 .now ≡ tape
-  pub buffer : args .1 .1 .1 .1 .0 .now ≡ out
+  pub verdicts : args .1 .1 .1 .1 .0 .now ≡ vs
+  pub seconds : args .1 .1 .1 .1 .1 .0 .now ≡ ss
   pub answered : result ≡ n
   pub book-after : exit .1 .1 .0 .now ≡ b′
-  pub buffer-after : exit .1 .1 .1 .1 .0 .now ≡ out′
+  pub verdicts-after : exit .1 .1 .1 .1 .0 .now ≡ vs′
+  pub seconds-after : exit .1 .1 .1 .1 .1 .0 .now ≡ ss′
 
--- `desk::step` in the form f, over the book b, with the record e: it answered n and left b′
-pub record StepCall (f : Form) (ts b : List ℕ) (e : Entry) (n : ℕ) (b′ : List ℕ) : Type 1 where
+-- `desk::step` in the form f, over the book b, with the record e: it answered r and left b′
+pub record StepCall (f : Form) (ts b : List ℕ) (e : Entry) (r : Reply) (b′ : List ℕ) : Type 1 where
   pub lifetimes : _
   pub args : _
   pub result : _
@@ -49,14 +52,14 @@ pub record StepCall (f : Form) (ts b : List ℕ) (e : Entry) (n : ℕ) (b′ : L
   pub list : args .1 .0 .now ≡ ts
   pub book : args .1 .1 .0 .now ≡ b
   pub entry : args .1 .1 .1 .0 ≡ e
-  pub answered : result ≡ n
+  pub answered : result ≡ r
   pub book-after : exit .1 .1 .0 .now ≡ b′
 
--- any number of steps, each over the book that the one before left: their records, their answers, and the last book
-pub data StepCalls (f : Form) (ts : List ℕ) : List ℕ → List Entry → List ℕ → List ℕ → Type 1 where
-  done : {b : List ℕ} → StepCalls f ts b [] [] b
-  more : {b next b′ : List ℕ} {e : Entry} {es : List Entry} {n : ℕ} {ns : List ℕ}
-      → StepCall f ts b e n next → StepCalls f ts next es ns b′ → StepCalls f ts b (e ∷ es) (n ∷ ns) b′
+-- any number of steps, each over the book that the one before left: their records, their verdicts, their second numbers, and the last book
+pub data StepCalls (f : Form) (ts : List ℕ) : List ℕ → List Entry → List ℕ → List ℕ → List ℕ → Type 1 where
+  done : {b : List ℕ} → StepCalls f ts b [] [] [] b
+  more : {b next b′ : List ℕ} {e : Entry} {es : List Entry} {r : Reply} {vs ss : List ℕ}
+      → StepCall f ts b e r next → StepCalls f ts next es vs ss b′ → StepCalls f ts b (e ∷ es) (r .verdict ∷ vs) (r .second ∷ ss) b′
 
 -- ---- the walk's calls
 -- `filing::read_list` over the bytes of a list on file, with cells for the longest list: it answered n and left the list ts in front

@@ -1,5 +1,5 @@
 -- Answers: refused, the lent cells are as before; and a number given is one of the table's.
-use mathlib.Core.Path.{_≡_, refl, sym, _∙_}
+use mathlib.Core.Path.{_≡_, refl, sym, ap, _∙_}
 use mathlib.Core.Logic.{⊎-elim}
 use Prim.Native.Nat.{_≤_, _<_}
 use native.Mathlib.Omega.{arith}
@@ -46,6 +46,13 @@ first-listed [] = stands-first 0 []
 first-listed ((n ⇐ true) ∷ rules) = stands-first n (numbers rules)
 first-listed ((n ⇐ false) ∷ rules) = stands-later (first rules) n (numbers rules) (first-listed rules)
 
+never : {P : Type 0} (t : Bool) → t ≡ true → t ≡ false → P
+never t p q = absurd (let z : _≡_ {A = ℕ} 0 1 = cc in omega arith)
+
+-- a number that the table hasn't is never given
+pub first-unlisted : (rules : List Rule) (n : ℕ) → isIn n (numbers rules) ≡ false → first rules ≡ n → ⊥
+first-unlisted rules n away is = never _ (first-listed rules) (ap (λ (i : ℕ). isIn i (numbers rules)) is ∙ away)
+
 -- ---- a verdict of 0: every test of the table is false
 -- the test of a number; where the table has none, it never holds
 abbrev pub testOf : ℕ → List Rule → Bool
@@ -91,9 +98,6 @@ abbrev pub rising : ℕ → List Rule → Bool
 rising a [] = true
 rising a ((n ⇐ test) ∷ rules) = ltb a n && rising n rules
 
-never : {P : Type 0} (t : Bool) → t ≡ true → t ≡ false → P
-never t p q = absurd (let z : _≡_ {A = ℕ} 0 1 = cc in omega arith)
-
 at-least : (m : ℕ) (test : Bool) (rules : List Rule) (n : ℕ) → (testOf n rules ≡ true → m < n) → testOf n ((m ⇐ test) ∷ rules) ≡ true → m ≤ n
 at-least m test rules n later e =
     ⊎-elim (λ (z : n ≡ m). omega arith) (λ (z : n ≡ m → ⊥). omega (arith, later (rw (ne-eqb n m z) at e))) (same n m)
@@ -111,6 +115,15 @@ skipped m rules w n = go (testOf n rules) refl
     go : (t : Bool) → testOf n rules ≡ t → testOf n ((m ⇐ false) ∷ rules) ≡ testOf n rules
     go true e = let l : m < n = above m rules w n e in rw (ne-eqb n m (λ z. omega arith))
     go false e = none-of (eqb n m) (testOf n rules) e ∙ sym e
+
+-- a number given is one whose test holds
+pub first-holds : (a : ℕ) (rules : List Rule) → rising a rules ≡ true → (first rules ≡ 0 → ⊥) → testOf (first rules) rules ≡ true
+unfolding first
+first-holds a [] w n = absurd (n refl)
+first-holds a ((m ⇐ true) ∷ rules) w n = rw (eq-eqb m m refl)
+first-holds a ((m ⇐ false) ∷ rules) w n =
+    let later : rising m rules ≡ true = and-right (ltb a m) (rising m rules) w in
+    skipped m rules later (first rules) ∙ first-holds m rules later n
 
 pub first-lowest : (a : ℕ) (rules : List Rule) → rising a rules ≡ true → Lowest rules (first rules)
 unfolding first

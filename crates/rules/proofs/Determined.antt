@@ -1,7 +1,10 @@
 -- What it is for a promise to determine its outcome: of two outcomes that it permits for the same arguments, what a caller sees
 -- is the same, the result and each lent cell afterwards. One theorem over the shape that the promises have, an equation with a
 -- value of the arguments; each crate shows its public functions of that shape (`proofs/Determined` there).
-use mathlib.Core.Path.{_≡_, sym, _∙_}
+use mathlib.Core.Path.{_≡_, sym, ap, _∙_}
+use Rattle.rules.specs.Lists.{ℕ, List}
+use Rattle.rules.specs.declared.Reply.{Reply}
+use Rattle.rules.specs.Verdicts.{Stepped, StepGives}
 
 -- L permits a result z and parameters e at exit; of these a caller sees what `seen` takes from them
 abbrev pub Determined : {Z E O : Type 0} → (Z → E → Type 0) → (Z → E → O) → Type 0
@@ -12,3 +15,9 @@ determined L seen value is z z′ e e′ p q = is z e p ∙ sym (is z′ e′ q)
 
 pub both : {A B : Type 0} {x x′ : A} {y y′ : B} → x ≡ x′ → y ≡ y′ → _≡_ {A = A × B} (x, y) (x′, y′)
 both p q = rw (p, q)
+
+-- both numbers of a step's reply are the definition's
+pub replied : {s : Stepped} {r : Reply} {after : List ℕ} → StepGives s r after → r ≡ record { verdict = s .number; second = s .second }
+replied {s} {r} g =
+    ap (λ (n : ℕ). record { verdict = n; second = r .second }) (g .number)
+    ∙ ap (λ (n : ℕ). record { verdict = s .number; second = n }) (g .second)

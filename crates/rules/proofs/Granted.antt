@@ -13,9 +13,10 @@ use Rattle.rules.specs.Sound.{total, mostTotal}
 use Rattle.rules.specs.Tape.{JoinCustomer, JoinBench, OpenLine, Update, Stock, Sell, Clear, TopUp, kindOf, is, usesBench, usesCustomer, wellFormed, inHall, entryRules}
 use Rattle.rules.specs.Form.{Form}
 use Rattle.rules.specs.Steps.{left, theCarnet, theView, theBenchView, theTill, theLine}
-use Rattle.rules.specs.Verdicts.{used, table, verdict}
+use Rattle.rules.specs.Verdicts.{used, waiting, table, verdict}
 use Rattle.rules.proofs.Tests.{below, and-false, or-left, or-right, parts}
 use Rattle.rules.proofs.Answering.{testOf, passed}
+use Rattle.rules.proofs.Searching.{all-present}
 use Rattle.rules.proofs.ByKind.{IsKind}
 
 -- a number that is used is one of the hall
@@ -160,4 +161,4 @@ module _ (f : Form) (h : Hall) (ts b : List ℕ) (e : Entry) (v : verdict f h ts
   -- 15
   pub clear-lives : e .kind ≡ kindOf Clear → every (λ t. isIn t (held (theView h b e))) (f .tokens ts (theLine h b e)) ≡ true
   unfolding table entryRules
-  clear-lives k = not-false _ (and-false _ _ (tests 15) (eq-eqb _ _ k))
+  clear-lives k = all-present _ (waiting f h ts b e) (ltb-false _ _ (and-false _ _ (tests 15) (eq-eqb _ _ k)))

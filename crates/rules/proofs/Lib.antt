@@ -9,8 +9,9 @@ pub mod Along
 pub mod Words
 pub mod Writing
 pub mod ByKind
+pub mod Searching
 pub mod Granted
+pub mod Dead
 pub mod Named
 pub mod Spent
-pub mod Searching
 pub mod Determined

@@ -5,18 +5,24 @@ use native.Mathlib.Nat.{zero-add, suc-add}
 use native.Mathlib.Omega.{arith}
 use lib.ListN.{length-append, length-drop, List·getD-append}
 use lib.Seq.{drop-append-le}
-use borrow.Author.Tests.{eq-eqb, ne-eqb, eqb-true}
-use Rattle.rules.specs.Lists.{ℕ, zero, suc, _+_, _*_, Bool, true, false, eqb, List, [], _∷_, _++_, length, drop, getD}
+use Rattle.rules.specs.Lists.{ℕ, zero, suc, _+_, _*_, Bool, true, false, List, [], _∷_, _++_, length, drop, getD}
 use Rattle.rules.specs.Hall.{Hall}
 use Rattle.rules.specs.Answers.{first}
 use Rattle.rules.specs.Bytes.{wordOf}
 use Rattle.rules.specs.Tape.{Entry, entryOf, entries}
 use Rattle.rules.specs.Form.{Form}
-use Rattle.rules.specs.Verdicts.{step, Ran, steps, run}
+use Rattle.rules.specs.Verdicts.{step, Ran, idle, onward, steps, oneEach, run}
+use Rattle.rules.proofs.Tests.{parts, whole}
 
--- one run's verdicts and then another's, and the book that the other leaves
+-- one run's numbers and then another's, and the book that the other leaves
 abbrev pub then : Ran → Ran → Ran
-then before after = record { answer = 0; verdicts = before .verdicts ++ after .verdicts; book = after .book }
+then before after =
+    record {
+      answer = 0;
+      verdicts = before .verdicts ++ after .verdicts;
+      seconds = before .seconds ++ after .seconds;
+      book = after .book;
+    }
 
 module _ (f : Form) (h : Hall) (ts : List ℕ) where
   pub steps-answer : (b : List ℕ) (es : List Entry) → steps f h ts b es .answer ≡ 0
@@ -24,7 +30,7 @@ module _ (f : Form) (h : Hall) (ts : List ℕ) where
   steps-answer b [] = refl
   steps-answer b (e ∷ es) = refl
 
-  steps-whole : (b : List ℕ) (es : List Entry) → steps f h ts b es ≡ record { answer = 0; verdicts = steps f h ts b es .verdicts; book = steps f h ts b es .book }
+  steps-whole : (b : List ℕ) (es : List Entry) → steps f h ts b es ≡ then (idle b) (steps f h ts b es)
   unfolding steps
   steps-whole b [] = refl
   steps-whole b (e ∷ es) = refl
@@ -32,46 +38,57 @@ module _ (f : Form) (h : Hall) (ts : List ℕ) where
   pub steps-joined : (b : List ℕ) (es es′ : List Entry) → steps f h ts b (es ++ es′) ≡ then (steps f h ts b es) (steps f h ts (steps f h ts b es .book) es′)
   unfolding steps
   steps-joined b [] es′ = steps-whole b es′
-  steps-joined b (e ∷ es) es′ =
-      ap (λ (r : Ran). record { answer = 0; verdicts = step f h ts b e .number ∷ r .verdicts; book = r .book })
-      (steps-joined (step f h ts b e .cells) es es′)
+  steps-joined b (e ∷ es) es′ = ap (onward (step f h ts b e)) (steps-joined (step f h ts b e .cells) es es′)
 
-  module _ (b tape out : List ℕ) where
-    pub run-does : f .good h ts b ≡ true → length tape ≡ 8 * length out → run f h ts b tape out ≡ steps f h ts b (entries (length out) tape)
-    unfolding run first
-    run-does g l = rw (g, eq-eqb (length tape) (8 * length out) l)
+  module _ (b tape vs ss : List ℕ) where
+    -- refused with n, and nothing written
+    abbrev pub left-alone : ℕ → Ran
+    left-alone n = record { answer = n; verdicts = vs; seconds = ss; book = b }
 
-    pub run-short : f .good h ts b ≡ true → (length tape ≡ 8 * length out → ⊥) → run f h ts b tape out ≡ record { answer = 16; verdicts = out; book = b }
+    pub run-does : f .good h ts b ≡ true → oneEach tape vs ss ≡ true → run f h ts b tape vs ss ≡ steps f h ts b (entries (length vs) tape)
     unfolding run first
-    run-short g l = rw (g, ne-eqb (length tape) (8 * length out) l)
+    run-does g l = rw (g, l)
+
+    pub run-short : f .good h ts b ≡ true → oneEach tape vs ss ≡ false → run f h ts b tape vs ss ≡ left-alone 16
+    unfolding run first
+    run-short g l = rw (g, l)
 
     -- a run is refused with 1 or 16 and writes nothing; else it is granted
-    refused-or : (P : Type 0) (g t : Bool) → f .good h ts b ≡ g → eqb (length tape) (8 * length out) ≡ t
-        → (f .good h ts b ≡ true → length tape ≡ 8 * length out → P)
-        → (run f h ts b tape out ≡ record { answer = 1; verdicts = out; book = b } → P)
-        → (run f h ts b tape out ≡ record { answer = 16; verdicts = out; book = b } → P)
+    refused-or : (P : Type 0) (g t : Bool) → f .good h ts b ≡ g → oneEach tape vs ss ≡ t
+        → (f .good h ts b ≡ true → oneEach tape vs ss ≡ true → P)
+        → ((n : ℕ) → 0 < n → run f h ts b tape vs ss ≡ left-alone n → P)
         → P
     unfolding run first
-    refused-or P true true eg et yes′ one sixteen = yes′ eg (eqb-true (length tape) (8 * length out) et)
-    refused-or P false t eg et yes′ one sixteen = one (rw eg)
-    refused-or P true false eg et yes′ one sixteen = sixteen (rw (eg, et))
+    refused-or P true true eg et yes′ no′ = yes′ eg et
+    refused-or P false t eg et yes′ no′ = no′ 1 (omega arith) (rw eg)
+    refused-or P true false eg et yes′ no′ = no′ 16 (omega arith) (rw (eg, et))
 
-    pub run-refused : (run f h ts b tape out .answer ≡ 0 → ⊥) → (run f h ts b tape out .verdicts ≡ out) × (run f h ts b tape out .book ≡ b)
+    pub run-refused : (run f h ts b tape vs ss .answer ≡ 0 → ⊥)
+        → (run f h ts b tape vs ss .verdicts ≡ vs) × (run f h ts b tape vs ss .seconds ≡ ss) × (run f h ts b tape vs ss .book ≡ b)
     run-refused n =
-        refused-or _ (f .good h ts b) (eqb (length tape) (8 * length out)) refl refl
+        refused-or _ (f .good h ts b) (oneEach tape vs ss) refl refl
         (λ g l. absurd (n (ap (λ (r : Ran). r .answer) (run-does g l) ∙ steps-answer b _)))
-        (λ e. (ap (λ (r : Ran). r .verdicts) e, ap (λ (r : Ran). r .book) e))
-        (λ e. (ap (λ (r : Ran). r .verdicts) e, ap (λ (r : Ran). r .book) e))
+        (λ k p e. (ap (λ (r : Ran). r .verdicts) e, ap (λ (r : Ran). r .seconds) e, ap (λ (r : Ran). r .book) e))
 
-    pub run-granted : run f h ts b tape out .answer ≡ 0 → (f .good h ts b ≡ true) × (length tape ≡ 8 * length out)
+    pub run-granted : run f h ts b tape vs ss .answer ≡ 0 → (f .good h ts b ≡ true) × (oneEach tape vs ss ≡ true)
     run-granted z =
-        refused-or _ (f .good h ts b) (eqb (length tape) (8 * length out)) refl refl
+        refused-or _ (f .good h ts b) (oneEach tape vs ss) refl refl
         (λ g l. (g, l))
-        (λ e. absurd (never 1 (sym (ap (λ (r : Ran). r .answer) e) ∙ z) (omega arith)))
-        (λ e. absurd (never 16 (sym (ap (λ (r : Ran). r .answer) e) ∙ z) (omega arith)))
-      where
-        never : (n : ℕ) → n ≡ 0 → 0 < n → ⊥
-        never n e l = omega arith
+        (λ n p e. absurd (omega (arith, sym (ap (λ (r : Ran). r .answer) e) ∙ z)))
+
+-- ---- a byte of each buffer for each record
+module _ (tape vs ss : List ℕ) where
+  pub each-tape : oneEach tape vs ss ≡ true → length tape ≡ 8 * length vs
+  unfolding oneEach
+  each-tape e = search parts
+
+  pub each-second : oneEach tape vs ss ≡ true → length ss ≡ length vs
+  unfolding oneEach
+  each-second e = search parts
+
+  pub one-each : length tape ≡ 8 * length vs → length ss ≡ length vs → oneEach tape vs ss ≡ true
+  unfolding oneEach
+  one-each p q = search whole
 
 -- ---- the records of two tapes joined
 front : (t t′ : List ℕ) → 8 ≤ length t → entryOf (t ++ t′) ≡ entryOf t
@@ -93,19 +110,23 @@ entries-joined (suc m) n t t′ l =
     ∙ ap (λ (es : List Entry). entryOf t ∷ es) (entries-joined m n (drop 8 t) t′ (simp length-drop (omega arith)))
 
 -- a granted run over two tapes joined is a granted run over the first, and then one over the second from the book that it leaves
-pub run-joined : (f : Form) (h : Hall) (ts b t t′ out out′ : List ℕ)
-    → run f h ts b t out .answer ≡ 0
-    → run f h ts (run f h ts b t out .book) t′ out′ .answer ≡ 0
-    → run f h ts b (t ++ t′) (out ++ out′) ≡ then (run f h ts b t out) (run f h ts (run f h ts b t out .book) t′ out′)
-run-joined f h ts b t t′ out out′ z z′ =
-    let p = run-granted f h ts b t out z in
-    let p′ = run-granted f h ts (run f h ts b t out .book) t′ out′ z′ in
-    let e : run f h ts b t out ≡ steps f h ts b (entries (length out) t) = run-does f h ts b t out (p .0) (p .1) in
-    let e′ : run f h ts (run f h ts b t out .book) t′ out′ ≡ steps f h ts (run f h ts b t out .book) (entries (length out′) t′) =
-    run-does f h ts (run f h ts b t out .book) t′ out′ (p′ .0) (p′ .1) in
-    run-does f h ts b (t ++ t′) (out ++ out′) (p .0) (simp length-append (omega (arith, p .1, p′ .1)))
-    ∙ ap (λ (k : ℕ). steps f h ts b (entries k (t ++ t′))) (length-append out out′)
-    ∙ ap (steps f h ts b) (entries-joined (length out) (length out′) t t′ (p .1))
-    ∙ steps-joined f h ts b (entries (length out) t) (entries (length out′) t′)
-    ∙ ap (λ (x : Ran). then x (steps f h ts (x .book) (entries (length out′) t′))) (sym e)
-    ∙ ap (then (run f h ts b t out)) (sym e′)
+pub run-joined : (f : Form) (h : Hall) (ts b t t′ vs vs′ ss ss′ : List ℕ)
+    → run f h ts b t vs ss .answer ≡ 0
+    → run f h ts (run f h ts b t vs ss .book) t′ vs′ ss′ .answer ≡ 0
+    → run f h ts b (t ++ t′) (vs ++ vs′) (ss ++ ss′) ≡ then (run f h ts b t vs ss) (run f h ts (run f h ts b t vs ss .book) t′ vs′ ss′)
+run-joined f h ts b t t′ vs vs′ ss ss′ z z′ =
+    let b′ : List ℕ = run f h ts b t vs ss .book in
+    let p = run-granted f h ts b t vs ss z in
+    let p′ = run-granted f h ts b′ t′ vs′ ss′ z′ in
+    let e : run f h ts b t vs ss ≡ steps f h ts b (entries (length vs) t) = run-does f h ts b t vs ss (p .0) (p .1) in
+    let e′ : run f h ts b′ t′ vs′ ss′ ≡ steps f h ts b′ (entries (length vs′) t′) = run-does f h ts b′ t′ vs′ ss′ (p′ .0) (p′ .1) in
+    let both : oneEach (t ++ t′) (vs ++ vs′) (ss ++ ss′) ≡ true =
+    one-each (t ++ t′) (vs ++ vs′) (ss ++ ss′)
+    (simp length-append (omega (arith, each-tape t vs ss (p .1), each-tape t′ vs′ ss′ (p′ .1))))
+    (simp length-append (omega (arith, each-second t vs ss (p .1), each-second t′ vs′ ss′ (p′ .1)))) in
+    run-does f h ts b (t ++ t′) (vs ++ vs′) (ss ++ ss′) (p .0) both
+    ∙ ap (λ (k : ℕ). steps f h ts b (entries k (t ++ t′))) (length-append vs vs′)
+    ∙ ap (steps f h ts b) (entries-joined (length vs) (length vs′) t t′ (each-tape t vs ss (p .1)))
+    ∙ steps-joined f h ts b (entries (length vs) t) (entries (length vs′) t′)
+    ∙ ap (λ (x : Ran). then x (steps f h ts (x .book) (entries (length vs′) t′))) (sym e)
+    ∙ ap (then (run f h ts b t vs ss)) (sym e′)

@@ -43,10 +43,17 @@ unfoldable pub without : List ℕ → List ℕ → List ℕ
 without ys [] = []
 without ys (x ∷ xs) = cond (isIn x ys) (without ys xs) (x ∷ without ys xs)
 
--- the first place of x, or the list's length
+-- the place of the first number of which the test holds, or the list's length
+unfoldable pub firstOf : (ℕ → Bool) → List ℕ → ℕ
+firstOf test [] = 0
+firstOf test (x ∷ xs) = cond (test x) 0 (suc (firstOf test xs))
+
+-- the first place of x; the place of the first number of the second list that has none in the first
 unfoldable pub placeOf : ℕ → List ℕ → ℕ
-placeOf x [] = 0
-placeOf x (y ∷ ys) = cond (eqb x y) 0 (suc (placeOf x ys))
+placeOf x ys = firstOf (eqb x) ys
+
+unfoldable pub firstAbsent : List ℕ → List ℕ → ℕ
+firstAbsent ys xs = firstOf (λ x. eqb (placeOf x ys) (length ys)) xs
 
 -- over a group of numbers: what f gives of each, added up; joined
 unfoldable pub sumOf : (ℕ → ℕ) → List ℕ → ℕ

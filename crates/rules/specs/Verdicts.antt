@@ -1,5 +1,5 @@
--- Verdict numbers: the table, in its order; a step; a run over a whole tape.
-use Rattle.rules.specs.Lists.{_≡_, ℕ, _+_, _*_, Bool, cond, not, _&&_, _||_, leb, ltb, eqb, List, [], _∷_, _++_, length, getD, every, isIn}
+-- Verdict numbers: the table, in its order; a step, and the second number that it answers; a run over a whole tape.
+use Rattle.rules.specs.Lists.{_≡_, ℕ, _+_, _*_, Bool, cond, not, _&&_, _||_, leb, ltb, eqb, List, [], _∷_, _++_, length, getD, firstAbsent}
 use Rattle.rules.specs.Hall.{Hall, mostHeld, mostSales, mostBudget}
 use Rattle.rules.specs.Answers.{Rule, _⇐_, first, Answer, answer}
 use Rattle.rules.specs.Records.{inUse, amount, count, sales, cells, held, recordAt}
@@ -7,6 +7,7 @@ use Rattle.rules.specs.Sound.{total, mostTotal}
 use Rattle.rules.specs.Tape.{Entry, JoinCustomer, JoinBench, OpenLine, Update, Stock, Sell, BenchAuthenticates, DeskAuthenticates, Clear, TopUp, kindOf, is, usesBench, usesCustomer, entryRules, entries}
 use Rattle.rules.specs.Form.{Form}
 use Rattle.rules.specs.Steps.{left, theCarnet, theView, theBenchView, theTill, theLine, effect}
+use Rattle.rules.specs.declared.Reply.{Reply}
 
 abbrev pub used : List ℕ → Bool
 used r = eqb (inUse r) 1
@@ -14,7 +15,30 @@ used r = eqb (inUse r) 1
 abbrev pub authenticates : Entry → Bool
 authenticates e = is e BenchAuthenticates || is e DeskAuthenticates
 
+-- what a step answers: its verdict, the second number, and the book afterwards
+pub record Stepped : Type 0 where
+  pub number : ℕ
+  pub second : ℕ
+  pub cells : List ℕ
+
+-- an answer, and beside its number a second one that goes by it
+abbrev pub beside : (ℕ → ℕ) → Answer → Stepped
+beside second a = record { number = a .number; second = second (a .number); cells = a .cells }
+
+-- what a promise says of a step: both of its numbers, and the lent book afterwards
+pub record StepGives (s : Stepped) (reply : Reply) (after : List ℕ) : Type 0 where
+  pub number : reply .verdict ≡ s .number
+  pub second : reply .second ≡ s .second
+  pub cells : after ≡ s .cells
+
 module _ (f : Form) (h : Hall) (ts b : List ℕ) (e : Entry) where
+  -- the tokens that the line stands for, and the place among them of the first that the desk's view of the customer lacks
+  abbrev pub waiting : List ℕ
+  waiting = f .tokens ts (theLine h b e)
+
+  abbrev pub deadAt : ℕ
+  deadAt = firstAbsent (held (theView h b e)) waiting
+
   -- 2 and 3 are those of the tape record by itself
   unfoldable pub table : List Rule
   table =
@@ -40,37 +64,55 @@ module _ (f : Form) (h : Hall) (ts b : List ℕ) (e : Entry) where
       ∷ (12 ⇐ is e Sell && (ltb mostHeld (count line + n) || ltb 0 n && eqb (sales line) mostSales))
       ∷ (13 ⇐ authenticates e && (eqb (count till) 0 || eqb (count benchView) 0))
       ∷ (14 ⇐ authenticates e && not (eqb (getD (cells till) 0 0) (getD (cells benchView) 0 0)))
-      ∷ (15 ⇐ is e Clear && not (every (λ t. isIn t (held view)) (f .tokens ts line)))
+      ∷ (15 ⇐ is e Clear && ltb deadAt (length waiting))
       ∷ []
 
   unfoldable pub verdict : ℕ
   verdict = first table
 
-  -- the verdict, and the book afterwards
-  unfoldable pub step : Answer
-  step = answer table (effect f h ts b e) b
+  -- the second number, beside a verdict v: with a 15 the place of the first dead token, with every other 0
+  unfoldable pub second : ℕ → ℕ
+  second v = cond (eqb v 15) deadAt 0
 
+  unfoldable pub step : Stepped
+  step = beside second (answer table (effect f h ts b e) b)
+
+-- what a run answers, and the two buffers and the book afterwards
 pub record Ran : Type 0 where
   pub answer : ℕ
   pub verdicts : List ℕ
+  pub seconds : List ℕ
   pub book : List ℕ
 
--- what a promise says of a run: its result, and the lent book and verdict buffer afterwards
-pub record RunGives (r : Ran) (result : ℕ) (after buffer : List ℕ) : Type 0 where
+-- what a promise says of a run: its result, and the lent book and buffers afterwards
+pub record RunGives (r : Ran) (result : ℕ) (after verdicts′ seconds′ : List ℕ) : Type 0 where
   pub answer : result ≡ r .answer
-  pub verdicts : buffer ≡ r .verdicts
+  pub verdicts : verdicts′ ≡ r .verdicts
+  pub seconds : seconds′ ≡ r .seconds
   pub book : after ≡ r .book
 
--- the steps in order, with each verdict
-unfoldable pub steps : Form → Hall → List ℕ → List ℕ → List Entry → Ran
-steps f h ts b [] = record { answer = 0; verdicts = []; book = b }
-steps f h ts b (e ∷ es) =
-    let now = step f h ts b e in
-    let rest = steps f h ts (now .cells) es in
-    record { answer = 0; verdicts = now .number ∷ rest .verdicts; book = rest .book }
+-- no step; a step, and then the rest
+abbrev pub idle : List ℕ → Ran
+idle b = record { answer = 0; verdicts = []; seconds = []; book = b }
 
--- refused, a run writes nothing; 16 where the tape isn't 8 bytes for each byte of the verdict buffer
-unfoldable pub run : Form → Hall → List ℕ → List ℕ → List ℕ → List ℕ → Ran
-run f h ts b tape out =
-    let n = first ((1 ⇐ not (f .good h ts b)) ∷ (16 ⇐ not (eqb (length tape) (8 * length out))) ∷ []) in
-    cond (eqb n 0) (steps f h ts b (entries (length out) tape)) (record { answer = n; verdicts = out; book = b })
+abbrev pub onward : Stepped → Ran → Ran
+onward now rest =
+    record { answer = 0; verdicts = now .number ∷ rest .verdicts; seconds = now .second ∷ rest .seconds; book = rest .book }
+
+-- the steps in order, with the numbers of each
+unfoldable pub steps : Form → Hall → List ℕ → List ℕ → List Entry → Ran
+steps f h ts b [] = idle b
+steps f h ts b (e ∷ es) = let now = step f h ts b e in onward now (steps f h ts (now .cells) es)
+
+-- a byte of the one buffer and of the other for each 8 of the tape
+unfoldable pub oneEach : List ℕ → List ℕ → List ℕ → Bool
+oneEach tape verdicts seconds =
+    eqb (length tape) (8 * length verdicts) && eqb (length seconds) (length verdicts)
+
+-- refused, a run writes nothing
+unfoldable pub run : Form → Hall → List ℕ → List ℕ → List ℕ → List ℕ → List ℕ → Ran
+run f h ts b tape verdicts seconds =
+    let n = first ((1 ⇐ not (f .good h ts b)) ∷ (16 ⇐ not (oneEach tape verdicts seconds)) ∷ []) in
+    cond (eqb n 0)
+    (steps f h ts b (entries (length verdicts) tape))
+    (record { answer = n; verdicts = verdicts; seconds = seconds; book = b })

@@ -1,4 +1,4 @@
-// What the definitions of specs/ and the code have in common: two kinds of value, and the hall in use.
+// What the definitions of specs/ and the code have in common: three kinds of value, and the hall in use.
 
 // A hall, by the number of its customers and of its benches.
 pub struct Hall {
@@ -19,4 +19,10 @@ pub struct Entry {
     pub customer: u8,
     pub byte3: u8,
     pub amount: u32,
+}
+
+// What a step answers: its verdict, and a second number.
+pub struct Reply {
+    pub verdict: u8,
+    pub second: u8,
 }

@@ -8,7 +8,14 @@ use Rattle.rules.specs.Lists.{ℕ, _+_, List, [], drop, getD}
 use Rattle.rules.specs.Hall.{Place, View, BenchView, Till, number}
 use Rattle.rules.specs.Records.{amount, cells, held, made, withAmount, withWord, recordAt, put}
 use Rattle.rules.specs.Steps.{putAll, dealt, fresh, joining, dealing, authenticating, toppingUp}
+use Rattle.rules.specs.declared.Reply.{Reply}
+use Rattle.rules.specs.Verdicts.{Stepped, StepGives}
+use Rattle.steps.specs.Replies.{alone}
 pub use Rattle.rules.proofs.Answering.{refused, granted}
+
+-- a verdict told alone
+pub as-alone : {s : Stepped} {r : Reply} {n : ℕ} {after : List ℕ} → r ≡ alone n → StepGives s (alone n) after → StepGives s r after
+as-alone e g = rw e g
 
 -- a chain is told the words as they were read
 pub of-words : (f : ℕ → ℕ → ℕ → ℕ → ℕ → ℕ) {x a a′ b b′ c c′ d d′ e e′ : ℕ}

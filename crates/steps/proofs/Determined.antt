@@ -3,6 +3,7 @@
 use Prim.Native.Nat.{ℕ}
 use mathlib.Core.List.{List}
 use Rattle.rules.proofs.Determined.{Determined, determined, both}
+use Rattle.steps.proofs.alone.Reads as alone-call
 use Rattle.steps.proofs.join_customer.Reads as join-customer-call
 use Rattle.steps.proofs.join_bench.Reads as join-bench-call
 use Rattle.steps.proofs.open_line.Reads as open-line-call
@@ -10,6 +11,9 @@ use Rattle.steps.proofs.update.Reads as update-call
 use Rattle.steps.proofs.stock.Reads as stock-call
 use Rattle.steps.proofs.authenticate.Reads as authenticate-call
 use Rattle.steps.proofs.top_up.Reads as top-up-call
+
+alone-determined : (κs : _) (a : _) → Determined (alone-call.Learnt κs a) (λ z e. z)
+alone-determined κs a = determined _ _ _ (λ z e p. p)
 
 join-customer-determined : (κs : _) (a : _) → Determined {O = ℕ × List ℕ} (join-customer-call.Learnt κs a) (λ z e. (z, e .1 .0 .now))
 join-customer-determined κs a = determined _ _ _ (λ z e p. both (p .number) (p .cells))

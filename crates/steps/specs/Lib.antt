@@ -1,3 +1,3 @@
--- What the contracts cite beside the rules: a step, one kind at a time.
--- What the contracts cite beside the rules: the records that a sale and a clear name.
+-- What the contracts cite beside the rules: the records that a sale and a clear name; a reply of one number.
 pub mod Spots
+pub mod Replies

@@ -11,14 +11,26 @@ ghost use Rattle.rules.specs.Sound.{mostTotal};
 ghost use Rattle.rules.specs.Tape.{usesBench};
 ghost use Rattle.rules.specs.Steps.{left};
 ghost use Rattle.kinds.specs.Kinds.{joinCustomer, joinBench, openLine, update, stock, authenticate, topUp, Placed, Listed};
+ghost use Rattle.steps.specs.Replies.{alone};
 
 pub mod sales;
 
 use book::writing;
 use rules::Entry;
 use rules::Hall;
+use rules::Reply;
 use sound::money;
 use tokens::searching;
+
+// A verdict that no second number goes with: every step's but a clear's that meets a dead token.
+pub fn alone(verdict: u8) -> Reply
+    ensures { λ r. ⌜ r ≡ alone verdict ⌝ }
+{
+    Reply {
+        verdict: verdict,
+        second: 0,
+    }
+}
 
 // ---- who comes in
 

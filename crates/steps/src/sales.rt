@@ -3,13 +3,16 @@
 ghost use mathlib.Core.Path.{_≡_};
 ghost use Prim.Native.Nat.{_≤_};
 ghost use Rattle.rules.specs.Answers.{first, Gives};
+ghost use Rattle.rules.specs.Verdicts.{StepGives};
 ghost use Rattle.book.specs.Forms.{formOf};
-ghost use Rattle.kinds.specs.Kinds.{sell, clear, Placed, Passed};
+ghost use Rattle.kinds.specs.Kinds.{sell, clear, numbered, Placed, Passed};
 ghost use Rattle.steps.specs.Spots.{spotsOf, Stand, knownAt, saleAt};
+use super::alone;
 use book::forms::Form;
 use changes::lines;
 use rules::Entry;
 use rules::Hall;
+use rules::Reply;
 use tokens::searching;
 
 // The numbers of the records that both name: the carnet, the desk's views of customer and bench, the line.
@@ -80,24 +83,28 @@ pub fn sell(form: Form, h: Hall, tokens: &[u32], book: &mut [u32], e: Entry) -> 
     0
 }
 
-// Where the line's tokens all live in the customer's view, they are struck from it, and the bench is paid.
-pub fn clear(form: Form, h: Hall, tokens: &[u32], book: &mut [u32], e: Entry) -> u8
+// Where the line's tokens all live in the customer's view, they are struck from it, and the bench is paid. Else the reply says
+// which is the first that doesn't.
+pub fn clear(form: Form, h: Hall, tokens: &[u32], book: &mut [u32], e: Entry) -> Reply
     requires { ⌜ Placed h (now book) e 9 × Passed (formOf form) h (now tokens) (now book) e ⌝ }
-    ensures { λ r. ⌜ Gives (clear h (now (book .entry)) e (formOf form) (now (tokens .entry))) r (now (book .exit)) ⌝ }
+    ensures { λ r. ⌜ StepGives (numbered (formOf form) h (now (tokens .entry)) (now (book .entry)) e (clear h (now (book .entry)) e (formOf form) (now (tokens .entry)))) r (now (book .exit)) ⌝ }
 {
     let at = find(h, e);
     let refused = known_line(book, at);
     if refused != 0 {
-        return refused;
+        return alone(refused);
     }
     let mut gone = [0u32; 32];
     let n = book::word_of(book, at.line, 2) as usize;
     lines::gather_line(form, tokens, book::record_at(book, at.line), &mut gone);
-    let lives = searching::all_in(book::tokens_at(book, at.view), &gone[..n]);
-    let refused = checks::clear(lives);
+    let dead = searching::first_absent(book::tokens_at(book, at.view), &gone[..n]);
+    let refused = checks::clear(dead, n);
     if refused != 0 {
-        return refused;
+        return Reply {
+            verdict: refused,
+            second: dead as u8,
+        };
     }
     changes::settle(book, at.view, at.bench, at.line, &gone[..n]);
-    0
+    alone(0)
 }

@@ -2,7 +2,7 @@
 ghost use mathlib.Core.Path.{_≡_};
 ghost use Prim.Native.Nat.{_+_, _≤_, min};
 ghost use lib.ListN.{length, take, drop};
-ghost use Rattle.rules.specs.Lists.{not, every, allZero, isIn, allDifferent, sameList, placeOf};
+ghost use Rattle.rules.specs.Lists.{not, every, allZero, isIn, allDifferent, sameList, placeOf, firstAbsent};
 
 // One token after the other, up to the hit: of few tokens, and in the block that has the token.
 fn first_hit(list: &[u32], token: u32) -> usize
@@ -111,18 +111,22 @@ pub fn all_among(list: &[u32], n: usize, tokens: &[u32]) -> bool
     true
 }
 
-// Whether each of some tokens stands in a list of few.
-pub fn all_in(list: &[u32], tokens: &[u32]) -> bool
-    ensures { λ r. ⌜ r ≡ every (λ t. isIn t (now (list .entry))) (now (tokens .entry)) ⌝ }
+// The place, among some tokens, of the first that has none in a list of few, or how many they are.
+pub fn first_absent(list: &[u32], tokens: &[u32]) -> usize
+    ensures { λ r. ⌜ r ≡ firstAbsent (now (list .entry)) (now (tokens .entry)) ⌝ }
 {
-    let mut i = 0;
-    while i < tokens.len() {
-        if is_absent(list, tokens[i]) {
-            return false;
+    let n = tokens.len();
+    let mut k = 0;
+    let place = loop {
+        if n <= k {
+            break n;
         }
-        i += 1;
-    }
-    true
+        if first_hit(list, tokens[k]) == list.len() {
+            break k;
+        }
+        k += 1;
+    };
+    place
 }
 
 // Every word is 0.

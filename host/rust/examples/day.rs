@@ -1,5 +1,5 @@
 //! A day with the book: loads a token list and a book, applies a tape, saves the book, and prints what was refused and
-//! the balance of each bench that has joined.
+//! the balance of each bench that has joined. With a 15 it prints which token is dead, counted from 0 in the line's tokens.
 //!
 //!     day tokens.rec book.rec tape.rec
 //!     day book.rec                            makes an empty book, if there is no file of that name
@@ -50,11 +50,16 @@ fn run(list: &str, filed: &str, tape: &str) -> Done<()> {
     let tokens: Vec<_> = listed.chunks(4).map(token).collect();
     let mut book = [0; places::BOOK_WORDS];
     let mut verdicts = vec![0; tape.len() / places::TAPE_BYTES];
+    let mut seconds = verdicts.clone();
     gingerstall::read_book(&load(filed)?, &mut book)?;
-    gingerstall::run(Form::Plain, &tokens, &mut book, &tape, &mut verdicts)?;
+    gingerstall::run(Form::Plain, &tokens, &mut book, &tape, &mut verdicts, &mut seconds)?;
     save(filed, &book)?;
-    for (step, verdict) in verdicts.iter().enumerate().filter(|(_, verdict)| **verdict != 0) {
-        println!("step {step}: refused {verdict}");
+    for (step, (verdict, second)) in verdicts.iter().zip(&seconds).enumerate() {
+        match verdict {
+            0 => {}
+            15 => println!("step {step}: refused 15, token {second} is dead"),
+            _ => println!("step {step}: refused {verdict}"),
+        }
     }
     let word = |bench, word| book[places::word(places::bench_view(bench), word)];
     for bench in (0..places::BENCHES).filter(|bench| word(*bench, places::IN_USE) == 1) {

@@ -53,27 +53,39 @@ pub struct Entry {
     pub amount: u32,
 }
 
-/// Why something was refused: a number from 1 to 16.
+/// Why something was refused: a number from 1 to 16, and with a 15 which token is dead.
 #[derive(Clone, Copy, Debug, PartialEq, Eq)]
-pub struct Refused(NonZeroU8);
+pub struct Refused {
+    number: NonZeroU8,
+    second: u8,
+}
 
 impl Refused {
     /// The number, as the table of verdicts in docs/RULES.md has it.
     pub fn number(self) -> u8 {
-        self.0.get()
+        self.number.get()
+    }
+
+    /// With a 15 the place, counted from 0 in the tokens that wait in the line, of the first that isn't in the desk's view
+    /// of the customer. In a slip book that is counted in the tokens that the line's slips open to.
+    pub fn dead_token(self) -> Option<usize> {
+        (self.number() == 15).then_some(self.second.into())
     }
 }
 
 impl fmt::Display for Refused {
     fn fmt(&self, to: &mut fmt::Formatter<'_>) -> fmt::Result {
-        write!(to, "refused {}", self.0)
+        write!(to, "refused {}", self.number)?;
+        self.dead_token().map_or(Ok(()), |place| write!(to, ", token {place} is dead"))
     }
 }
 
 impl error::Error for Refused {}
 
-fn answered(number: u8) -> Result<(), Refused> {
-    NonZeroU8::new(number).map_or(Ok(()), |number| Err(Refused(number)))
+/// A step's answer has its second number in the high byte; all others are one number.
+fn answered(answer: impl Into<u16>) -> Result<(), Refused> {
+    let [number, second] = answer.into().to_le_bytes();
+    NonZeroU8::new(number).map_or(Ok(()), |number| Err(Refused { number, second }))
 }
 
 /// Makes the book empty; 1 if it hasn't [`places::BOOK_WORDS`].
@@ -90,8 +102,8 @@ pub fn is_sound(form: Form, tokens: &[u32], book: &[u32]) -> bool {
     unsafe { asked(tokens.as_ptr(), tokens.len(), book.as_ptr(), book.len()) == 0 }
 }
 
-/// Does one step, or refuses it with 1 to 15. It asks first whether the book is sound, and refuses with 1 if it isn't: for
-/// many steps that is dear, and [`run`] asks once.
+/// Does one step, or refuses it with 1 to 15; [`Refused::dead_token`] goes with a 15. It asks first whether the book is
+/// sound, and refuses with 1 if it isn't: for many steps that is dear, and [`run`] asks once.
 pub fn step(form: Form, tokens: &[u32], book: &mut [u32], entry: Entry) -> Result<(), Refused> {
     let done = match form {
         Form::Plain => raw::gs_step,
@@ -103,14 +115,19 @@ pub fn step(form: Form, tokens: &[u32], book: &mut [u32], entry: Entry) -> Resul
 }
 
 /// Does the steps of a tape. Refuses with 1 if the book isn't sound over the list, and with 16 unless the tape has
-/// [`places::TAPE_BYTES`] for each verdict. Otherwise `verdicts[i]` becomes what record i got, 0 where it was granted.
-pub fn run(form: Form, tokens: &[u32], book: &mut [u32], tape: &[u8], verdicts: &mut [u8]) -> Result<(), Refused> {
+/// [`places::TAPE_BYTES`] for each verdict and the seconds are as many as these. Otherwise `verdicts[i]` becomes what record
+/// i got, 0 where it was granted, and `seconds[i]` its second number: the place of the dead token with a 15, as
+/// [`Refused::dead_token`] counts it, and 0 with every other verdict.
+pub fn run(
+    form: Form, tokens: &[u32], book: &mut [u32], tape: &[u8], verdicts: &mut [u8], seconds: &mut [u8],
+) -> Result<(), Refused> {
     let done = match form {
         Form::Plain => raw::gs_run,
         Form::Slip => raw::gs_slip_run,
     };
-    let (list, n, words, bytes, count) = (tokens.as_ptr(), tokens.len(), book.len(), tape.len(), verdicts.len());
-    answered(unsafe { done(list, n, book.as_mut_ptr(), words, tape.as_ptr(), bytes, verdicts.as_mut_ptr(), count) })
+    let (list, n, words, steps, bytes) = (tokens.as_ptr(), tokens.len(), book.len(), tape.as_ptr(), tape.len());
+    let (first, count, second, as_many) = (verdicts.as_mut_ptr(), verdicts.len(), seconds.as_mut_ptr(), seconds.len());
+    answered(unsafe { done(list, n, book.as_mut_ptr(), words, steps, bytes, first, count, second, as_many) })
 }
 
 /// Opens a slip book into a plain one, whatever that held; 1 if the slip book isn't sound over the list or the plain one

@@ -14,16 +14,16 @@ extern "C" {
     pub fn gs_slip_sound(tokens: *const u32, n: usize, book: *const u32, words: usize) -> u8;
     pub fn gs_step(
         tokens: *const u32, n: usize, book: *mut u32, words: usize, kind: u8, bench: u8, customer: u8, zero: u8, amount: u32,
-    ) -> u8;
+    ) -> u16;
     pub fn gs_slip_step(
         tokens: *const u32, n: usize, book: *mut u32, words: usize, kind: u8, bench: u8, customer: u8, zero: u8, amount: u32,
-    ) -> u8;
+    ) -> u16;
     pub fn gs_run(
         tokens: *const u32, n: usize, book: *mut u32, words: usize, tape: *const u8, bytes: usize, verdicts: *mut u8,
-        count: usize,
+        count: usize, seconds: *mut u8, second_count: usize,
     ) -> u8;
     pub fn gs_slip_run(
         tokens: *const u32, n: usize, book: *mut u32, words: usize, tape: *const u8, bytes: usize, verdicts: *mut u8,
-        count: usize,
+        count: usize, seconds: *mut u8, second_count: usize,
     ) -> u8;
 }

@@ -69,12 +69,32 @@ fn a_run_is_its_steps() {
         assert_eq!(gingerstall::write(step, part), Ok(()));
     }
     for form in [Form::Plain, Form::Slip] {
-        let (mut book, mut verdicts) = (empty(), [99; 6]);
-        assert_eq!(gingerstall::run(form, &TOKENS, &mut book, &tape, &mut verdicts), Ok(()));
-        assert_eq!((&book, verdicts), (&stepped(form), [0; 6]));
-        assert_eq!(number(gingerstall::run(form, &TOKENS, &mut book, &tape, &mut verdicts[1..])), 16);
-        assert_eq!(number(gingerstall::run(form, &[1, 1], &mut book, &tape, &mut verdicts)), 1);
-        assert_eq!((book, verdicts), (stepped(form), [0; 6]));
+        let (mut book, mut verdicts, mut seconds) = (empty(), [99; 6], [99; 6]);
+        assert_eq!(gingerstall::run(form, &TOKENS, &mut book, &tape, &mut verdicts, &mut seconds), Ok(()));
+        assert_eq!((&book, verdicts, seconds), (&stepped(form), [0; 6], [0; 6]));
+        (verdicts, seconds) = ([98; 6], [99; 6]);
+        assert_eq!(number(gingerstall::run(form, &TOKENS, &mut book, &tape, &mut verdicts[1..], &mut seconds)), 16);
+        assert_eq!(number(gingerstall::run(form, &TOKENS, &mut book, &tape, &mut verdicts, &mut seconds[1..])), 16);
+        assert_eq!(number(gingerstall::run(form, &[1, 1], &mut book, &tape, &mut verdicts, &mut seconds[1..])), 1);
+        assert_eq!((book, verdicts, seconds), (stepped(form), [98; 6], [99; 6]));
+    }
+}
+
+#[test]
+fn a_dead_token_is_told() {
+    let clear = entry(9, 2, 5, 0);
+    let mut tape = [0; TAPE_BYTES];
+    gingerstall::write(clear, &mut tape).unwrap();
+    for form in [Form::Plain, Form::Slip] {
+        let mut book = stepped(form);
+        gingerstall::step(form, &TOKENS, &mut book, entry(4, 0, 5, 0)).unwrap();
+        gingerstall::step(form, &TOKENS, &mut book, entry(6, 2, 5, 2)).unwrap();
+        let refused = gingerstall::step(form, &TOKENS, &mut book, clear).unwrap_err();
+        assert_eq!((refused.number(), refused.dead_token()), (15, Some(2)));
+        assert_eq!(refused.to_string(), "refused 15, token 2 is dead");
+        let (mut verdicts, mut seconds) = ([98], [99]);
+        assert_eq!(gingerstall::run(form, &TOKENS, &mut book, &tape, &mut verdicts, &mut seconds), Ok(()));
+        assert_eq!((verdicts, seconds), ([15], [2]));
     }
 }
 
@@ -106,8 +126,8 @@ fn books_go_to_bytes_and_back() {
 fn nothing_at_all_is_taken() {
     assert_eq!(number(gingerstall::make_empty(&mut [])), 1);
     assert!(!gingerstall::is_sound(Form::Slip, &[], &[]));
-    assert_eq!(number(gingerstall::run(Form::Plain, &[], &mut empty(), &[], &mut [])), 0);
+    assert_eq!(number(gingerstall::run(Form::Plain, &[], &mut empty(), &[], &mut [], &mut [])), 0);
     assert_eq!(number(gingerstall::read(&[], usize::MAX).answer), 16);
     let refused = gingerstall::step(Form::Slip, &[], &mut [], Entry::default()).unwrap_err();
-    assert_eq!((refused.number(), refused.to_string().as_str()), (1, "refused 1"));
+    assert_eq!((refused.number(), refused.dead_token(), refused.to_string().as_str()), (1, None, "refused 1"));
 }

@@ -1,4 +1,4 @@
--- The one test of the table, which the caller has made.
+-- The one test of the table.
 use Rattle.checks.proofs.Tables.{table}
 use Rattle.kinds.specs.Chains.{clearRules}
 use Rattle.checks.proofs.clear.Statement.{statement}

@@ -12,8 +12,11 @@ same-length c = search needs
 same-length-2 : tie.Need-same-length-2
 same-length-2 c = search needs
 
+same-length-3 : tie.Need-same-length-3
+same-length-3 c = search needs
+
 returns : tie.Need-returns
 returns c = search needs
 
 pub run-spec : {M : Type 1} → statement M
-run-spec = tie.close (tie.spec run-of-requires same-length same-length-2 returns)
+run-spec = tie.close (tie.spec run-of-requires same-length same-length-2 same-length-3 returns)

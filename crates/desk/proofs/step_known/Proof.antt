@@ -1,5 +1,6 @@
 -- Numbers 2 and 3 first; then the record's kind.
-use Rattle.desk.proofs.Kind.{step-malformed}
+use Rattle.steps.proofs.Answered.{as-alone}
+use Rattle.desk.proofs.Refused.{step-malformed}
 use borrow.Author.Needs.{needs}
 use Rattle.desk.proofs.step_known.Statement.{statement}
 use Rattle.desk.proofs.step_known.Tie as tie
@@ -7,11 +8,16 @@ use Rattle.desk.proofs.step_known.Tie as tie
 judge-requires : tie.Need-judge-requires
 judge-requires c κs = search needs
 
+alone-requires : tie.Need-alone-requires
+alone-requires c κs = search needs
+
 abbrev begun : tie.Then1 → tie.Start
 begun c = c .before .before .before .before
 
 returns : tie.Need-returns
-returns c = let s = begun c in step-malformed _ _ _ _ _ _ (s .pre .good) (c .before .judge .ensures) (c .if1 .taken)
+returns c =
+    let told = c .before in
+    as-alone (c .alone .ensures) (step-malformed _ _ _ _ _ _ (begun told .pre .good) (told .before .judge .ensures) (told .if1 .taken))
 
 step-kind-requires : tie.Need-step-kind-requires
 step-kind-requires c κs = search needs
@@ -24,4 +30,4 @@ returns-2 c = search needs
 
 pub step-known-spec : {M : Type 1} → statement M
 step-known-spec =
-    tie.close (tie.spec judge-requires returns step-kind-requires same-length returns-2)
+    tie.close (tie.spec judge-requires alone-requires returns step-kind-requires same-length returns-2)

@@ -1,6 +1,7 @@
 -- An unsound book answers 1; a sound one is stepped over.
 use mathlib.Core.Path.{sym, _∙_}
 use borrow.Author.Tests.{not-true, not-false}
+use Rattle.steps.proofs.Answered.{as-alone}
 use Rattle.desk.proofs.Refused.{step-unsound}
 use borrow.Author.Needs.{needs}
 use Rattle.desk.proofs.step_of.Statement.{statement}
@@ -9,11 +10,16 @@ use Rattle.desk.proofs.step_of.Tie as tie
 is-good-requires : tie.Need-is-good-requires
 is-good-requires c κs = search needs
 
+alone-requires : tie.Need-alone-requires
+alone-requires c κs = search needs
+
 same-length : tie.Need-same-length
 same-length c = search needs
 
 returns : tie.Need-returns
-returns c = step-unsound _ _ _ _ _ (sym (c .before .is-good .ensures) ∙ not-true _ (c .if1 .taken))
+returns c =
+    let told = c .before in
+    as-alone (c .alone .ensures) (step-unsound _ _ _ _ _ (sym (told .before .is-good .ensures) ∙ not-true _ (told .if1 .taken)))
 
 abbrev begun : tie.After-step-known-arg → tie.Start
 begun c = c .before .before .before .before .before .before
@@ -32,4 +38,4 @@ returns-2 c = search needs
 pub step-of-spec : {M : Type 1} → statement M
 step-of-spec =
     tie.close
-    (tie.spec is-good-requires same-length returns step-known-requires same-length-2 returns-2)
+    (tie.spec is-good-requires alone-requires same-length returns step-known-requires same-length-2 returns-2)

@@ -1,7 +1,7 @@
 use Rattle.rules.specs.Hall.{mainHall}
 use Rattle.rules.specs.Form.{plain}
 use Rattle.rules.specs.Verdicts.{step}
-use Rattle.gingerstall.proofs.Told.{of-entry}
+use Rattle.gingerstall.proofs.Told.{of-step}
 use borrow.Author.Needs.{needs}
 use Rattle.gingerstall.proofs.gs_step.Statement.{statement}
 use Rattle.gingerstall.proofs.gs_step.Tie as tie
@@ -12,18 +12,23 @@ entry-requires c κs = search needs
 step-requires : tie.Need-step-requires
 step-requires c κs = search needs
 
+packed-requires : tie.Need-packed-requires
+packed-requires c κs = search needs
+
 same-length : tie.Need-same-length
 same-length c = search needs
 
-abbrev at-entry : tie.After-slice-known2 → tie.After-entry
-at-entry c = c .before .before .before
+abbrev at-step : tie.After-packed → tie.After-step
+at-step c = c .before .before .before
 
-abbrev begun : tie.After-slice-known2 → tie.Start
-begun c = at-entry c .before .before .before .before
+abbrev at-entry : tie.After-packed → tie.After-entry
+at-entry c = at-step c .before .before
 
 returns : tie.Need-returns
-returns c = let s = begun c .args in
-    of-entry (step plain mainHall (s .tokens .now) (s .book .now)) _ _ _ _ (at-entry c .entry .ensures) (c .before .before .step .ensures)
+returns c =
+    let s = at-entry c .before .before .before .args in
+    of-step (step plain mainHall (s .tokens .now) (s .book .now)) _ _ _ _ _ (at-entry c .entry .ensures) (at-step c .step .ensures) (c .packed .ensures)
 
 pub gs-step-spec : {M : Type 1} → statement M
-gs-step-spec = tie.close (tie.spec entry-requires step-requires same-length returns)
+gs-step-spec =
+    tie.close (tie.spec entry-requires step-requires packed-requires same-length returns)

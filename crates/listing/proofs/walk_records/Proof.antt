@@ -1,4 +1,4 @@
--- The run's verdicts, and then their lines.
+-- The run, and then the lines of its verdicts.
 use Rattle.listing.proofs.Parts.{records-done}
 use borrow.Author.Needs.{needs}
 use Rattle.listing.proofs.walk_records.Statement.{statement}
@@ -19,11 +19,14 @@ same-length-2 c = search needs
 same-length-3 : tie.Need-same-length-3
 same-length-3 c = search needs
 
-abbrev at-run-known : tie.After-slice-known6 → tie.After-run-known
-at-run-known c = c .before .before .before .before .before .before .before .before .before
+same-length-4 : tie.Need-same-length-4
+same-length-4 c = search needs
+
+abbrev at-run-known : tie.After-slice-known8 → tie.After-run-known
+at-run-known c = c .before .before .before .before .before .before .before .before .before .before .before
 
 returns : tie.Need-returns
-returns c = records-done _ _ _ _ _ _ _ _ _ _ _ _ (at-run-known c .run-known .ensures) (c .before .before .put-steps .ensures)
+returns c = records-done _ _ _ _ _ _ _ _ _ _ _ _ _ (at-run-known c .run-known .ensures) (c .before .before .put-steps .ensures)
 
 pub walk-records-spec : {M : Type 1} → statement M
 walk-records-spec =
@@ -34,4 +37,5 @@ walk-records-spec =
     same-length
     same-length-2
     same-length-3
+    same-length-4
     returns)

@@ -4,13 +4,13 @@ use mathlib.Core.Logic.{⊎-elim}
 use Prim.Native.Nat.{_≤_, _<_}
 use native.Mathlib.Omega.{arith}
 use borrow.Author.Tests.{eq-eqb, ne-eqb}
-use Rattle.rules.specs.Lists.{ℕ, zero, suc, _+_, _-_, min, true, List, [], _∷_, length, take, drop, getD, occ, allDifferent, placeOf}
+use Rattle.rules.specs.Lists.{ℕ, zero, suc, _+_, _-_, min, true, List, [], _∷_, length, take, drop, getD, occ, allDifferent, firstOf, placeOf}
 use Rattle.rules.proofs.Tests.{parts, same}
 use Rattle.laws.proofs.Occurrences.{occ-split}
 use Rattle.laws.proofs.Tokens.{take-occ}
 
 pub place-there : (x : ℕ) (ts : List ℕ) → placeOf x ts < length ts → getD ts (placeOf x ts) 0 ≡ x
-unfolding placeOf
+unfolding firstOf placeOf
 place-there x [] l = absurd (omega arith)
 place-there x (y ∷ ys) l =
     ⊎-elim
@@ -19,7 +19,7 @@ place-there x (y ∷ ys) l =
     (same x y)
 
 front-occ : (ts : List ℕ) → allDifferent ts ≡ true → (x m : ℕ) → m ≤ length ts → occ x (take m ts) ≡ min 1 (m - placeOf x ts)
-unfolding allDifferent occ placeOf
+unfolding allDifferent occ firstOf placeOf
 front-occ ts e x zero l = omega arith
 front-occ [] e x (suc m) l = absurd (omega arith)
 front-occ (y ∷ ys) e x (suc m) l =

@@ -1,9 +1,9 @@
 -- Two chains, one behind the other: the first decides where it refuses, and the second where the first lets pass.
 use mathlib.Core.Path.{_≡_, refl, sym, _∙_}
-use Rattle.rules.specs.Lists.{ℕ, List, _++_, getD}
+use Rattle.rules.specs.Lists.{ℕ, List, _++_, getD, occ}
 use Rattle.rules.specs.Answers.{Rule, first}
 use Rattle.rules.specs.Records.{inUse, count, sales, recordAt}
-use Rattle.rules.proofs.Answering.{first-past}
+use Rattle.rules.proofs.Answering.{first-unlisted, first-past}
 use Rattle.kinds.specs.Chains.{lineRules, saleRules}
 use Rattle.steps.specs.declared.sales.Spots.{Spots}
 use Rattle.steps.specs.Spots.{knownAt, saleAt}
@@ -14,6 +14,11 @@ module _ (b : List ℕ) (at : Spots) where
       → r ≡ first (lineRules u v w) → r ≡ first (knownAt b at)
   unfolding knownAt inUse
   known-judged u v w r p q s n = n ∙ rw (p, q, s)
+
+  -- no dead token is told here
+  pub known-lives : (r : ℕ) → r ≡ first (knownAt b at) → r ≡ 15 → ⊥
+  unfolding knownAt lineRules occ
+  known-lives r n z = first-unlisted (knownAt b at) 15 refl (sym n ∙ z)
 
   -- the line is known, and a later chain answers
   module _ (r : ℕ) (known : r ≡ first (knownAt b at)) (zero : r ≡ 0) where

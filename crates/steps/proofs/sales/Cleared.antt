@@ -1,15 +1,17 @@
 -- A clear, by the numbers found: the tokens that are gone, whether they live, what is settled, and the book afterwards.
-use mathlib.Core.Path.{_≡_, sym, ap, _∙_, subst}
+use mathlib.Core.Path.{_≡_, refl, sym, ap, _∙_, subst}
 use Prim.Native.Nat.{_≤_, _<_}
 use native.Mathlib.Omega.{arith}
+use borrow.Author.Tests.{ltb-true}
 use Rattle.rules.specs.declared.Hall.{Hall}
 use Rattle.rules.specs.declared.Entry.{Entry}
-use Rattle.rules.specs.Lists.{ℕ, _+_, _*_, Bool, List, [], _++_, length, take, getD, every, isIn, without}
+use Rattle.rules.specs.Lists.{ℕ, _+_, _*_, Bool, true, false, cond, ltb, List, [], _++_, length, take, getD, without, firstAbsent}
 use Rattle.rules.specs.Hall.{mostHeld, mostSales}
 use Rattle.rules.specs.Answers.{Rule, first}
 use Rattle.rules.specs.Records.{words, amount, count, sales, held, made, withAmount, recordAt, put}
 use Rattle.rules.specs.Form.{Form}
-use Rattle.rules.specs.Steps.{theView, theLine, settling, clearing, putAll}
+use Rattle.rules.specs.Steps.{settling, clearing, putAll}
+use Rattle.rules.specs.Verdicts.{waiting, deadAt}
 use Rattle.laws.proofs.Blocks.{block-size}
 use Rattle.tokens.specs.Laid.{laid}
 use Rattle.kinds.specs.Chains.{clearRules}
@@ -22,9 +24,18 @@ use Rattle.rules.proofs.Answering.{first-refuses}
 use Rattle.steps.proofs.sales.Chained.{known-then}
 use Rattle.steps.proofs.sales.Stood.{Case, inside, ready, all-stand, few-tokens, few-sales, counted}
 
--- every token that is gone lives in the view
-abbrev lives : List ℕ → Spots → List ℕ → Bool
-lives b at gone = every (λ t. isIn t (held (recordAt (at .view) b))) gone
+-- the place of the first token that is gone and doesn't live in the view
+abbrev dead : List ℕ → Spots → List ℕ → ℕ
+dead b at gone = firstAbsent (held (recordAt (at .view) b)) gone
+
+-- a clear that knows its line is refused for a dead token alone
+pub refused-dead : (d n r : ℕ) → r ≡ first (clearRules d n) → (r ≡ 0 → ⊥) → (r ≡ 15) × (d < n)
+unfolding clearRules first
+refused-dead d n r e z = go (ltb d n) refl e
+  where
+    go : (t : Bool) → ltb d n ≡ t → r ≡ cond t 15 0 → (r ≡ 15) × (d < n)
+    go true l e = (e, ltb-true d n l)
+    go false l e = absurd (z e)
 
 -- the three records of a settled line
 abbrev settled : List ℕ → Spots → List ℕ → List ℕ
@@ -35,7 +46,7 @@ settled b at gone =
 
 -- the chain of a clear, as the rules have it
 abbrev pub clearChain : Form → Hall → List ℕ → List ℕ → Entry → List Rule
-clearChain f h ts b e = knownLine h b e ++ clearRules (every (λ t. isIn t (held (theView h b e))) (f .tokens ts (theLine h b e)))
+clearChain f h ts b e = knownLine h b e ++ clearRules (deadAt f h ts b e) (length (waiting f h ts b e))
 
 module _ {f : Form} {h : Hall} {ts b : List ℕ} {e : Entry} {at : Spots} (case : Case f h ts b e 9 at) where
   -- ---- the tokens that are gone
@@ -59,16 +70,25 @@ module _ {f : Form} {h : Hall} {ts b : List ℕ} {e : Entry} {at : Spots} (case 
   unfolding knownAt knownLine
   line-refused r n z = first-refuses (knownLine h b e) _ r (n ∙ ap (λ (s : Spots). first (knownAt b s)) (case .found)) z
 
+  -- the count that was read is how many tokens the line stands for
+  all-waiting : (n : ℕ) → n ≡ getD (recordAt (at .line) b) 2 0 → n ≡ length (waiting f h ts b e)
+  unfolding count
+  all-waiting n p = p ∙ sym (counted case) ∙ ap (λ (s : Spots). length (f .tokens ts (recordAt (s .line) b))) (case .found)
+
   module _ (gone : List ℕ) (all : gone ≡ f .tokens ts (recordAt (at .line) b)) where
-    pub clear-number : (r s : ℕ) (l : Bool) (view : List ℕ) → r ≡ first (knownAt b at) → r ≡ 0 → view ≡ held (recordAt (at .view) b)
-        → l ≡ every (λ t. isIn t view) gone → s ≡ first (clearRules l) → s ≡ first (clearChain f h ts b e)
+    pub dead-is : (d : ℕ) (view : List ℕ) → view ≡ held (recordAt (at .view) b) → d ≡ firstAbsent view gone → d ≡ deadAt f h ts b e
+    dead-is d view v a =
+        a
+        ∙ ap (λ (x : List ℕ). firstAbsent x gone) v
+        ∙ ap (dead b at) all
+        ∙ ap (λ (s : Spots). dead b s (f .tokens ts (recordAt (s .line) b))) (case .found)
+
+    pub clear-number : (r s d n : ℕ) → r ≡ first (knownAt b at) → r ≡ 0 → d ≡ deadAt f h ts b e → n ≡ getD (recordAt (at .line) b) 2 0
+        → s ≡ first (clearRules d n) → s ≡ first (clearChain f h ts b e)
     unfolding knownAt knownLine
-    clear-number r s l view n z v a m =
-        known-then b at r n z _ s
-        (m
-        ∙ ap (λ (x : Bool). first (clearRules x))
-        (a ∙ ap (λ (x : List ℕ). every (λ t. isIn t x) gone) v ∙ ap (lives b at) all))
-        ∙ ap (λ (s : Spots). first (knownAt b s ++ clearRules (lives b s (f .tokens ts (recordAt (s .line) b))))) (case .found)
+    clear-number r s d n k z p q m =
+        known-then b at r k z _ s (m ∙ rw (p, all-waiting n q))
+        ∙ ap (λ (s : Spots). first (knownAt b s ++ clearRules (deadAt f h ts b e) (length (waiting f h ts b e)))) (case .found)
 
     -- ---- the book afterwards
     pub clear-written : (new : List ℕ) → new ≡ settled b at gone → new ≡ putAll h (clearing h b e f ts) b

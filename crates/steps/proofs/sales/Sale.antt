@@ -7,11 +7,11 @@ use Rattle.rules.specs.declared.Hall.{Hall}
 use Rattle.rules.specs.declared.Entry.{Entry}
 use Rattle.rules.specs.Lists.{ℕ, _+_, _-_, List, _++_, length, replicate}
 use Rattle.rules.specs.Hall.{mostHeld}
-use Rattle.rules.specs.Answers.{Rule, first, Answer, answer}
+use Rattle.rules.specs.Answers.{Rule, first, answer}
 use Rattle.rules.specs.Records.{words, count, sales, filled, recordAt}
 use Rattle.rules.specs.Form.{Form}
 use Rattle.rules.specs.Steps.{theCarnet, theLine, soldLine, selling, putAll}
-use Rattle.rules.specs.Verdicts.{verdict}
+use Rattle.rules.specs.Verdicts.{Stepped, verdict}
 use Rattle.rules.proofs.Granted.{sell-room}
 use Rattle.rules.proofs.Stepping.{step-verdict}
 use Rattle.kinds.specs.Chains.{saleRules}
@@ -44,7 +44,7 @@ module _ {f : Form} {h : Hall} {ts b : List ℕ} {e : Entry} {at : Spots} (case 
     granted : verdict f h ts b e ≡ 0
     unfolding sell answer
     granted =
-        sym (step-verdict f h ts b e) ∙ ap (λ (a : Answer). a .number) (step-sell f h ts b e (case .passed) (case .placed .kind)) ∙ sym (sale-number r n) ∙ zero
+        sym (step-verdict f h ts b e) ∙ ap (λ (s : Stepped). s .number) (step-sell f h ts b e (case .passed) (case .placed .kind)) ∙ sym (sale-number r n) ∙ zero
 
     whole : length (soldCells f b (spotsOf h e .carnet) (spotsOf h e .line) (e .amount)) ≤ mostHeld
     unfolding soldCells soldLine

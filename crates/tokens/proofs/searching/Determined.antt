@@ -8,7 +8,7 @@ use Rattle.tokens.proofs.searching.smaller.Reads as smaller-call
 use Rattle.tokens.proofs.searching.is_among.Reads as is-among-call
 use Rattle.tokens.proofs.searching.all_different.Reads as all-different-call
 use Rattle.tokens.proofs.searching.all_among.Reads as all-among-call
-use Rattle.tokens.proofs.searching.all_in.Reads as all-in-call
+use Rattle.tokens.proofs.searching.first_absent.Reads as first-absent-call
 use Rattle.tokens.proofs.searching.is_blank.Reads as is-blank-call
 use Rattle.tokens.proofs.searching.same_list.Reads as same-list-call
 
@@ -33,8 +33,8 @@ all-different-determined κs a = determined _ _ _ (λ z e p. p)
 all-among-determined : (κs : _) (a : _) → Determined (all-among-call.Learnt κs a) (λ z e. z)
 all-among-determined κs a = determined _ _ _ (λ z e p. p)
 
-all-in-determined : (κs : _) (a : _) → Determined (all-in-call.Learnt κs a) (λ z e. z)
-all-in-determined κs a = determined _ _ _ (λ z e p. p)
+first-absent-determined : (κs : _) (a : _) → Determined (first-absent-call.Learnt κs a) (λ z e. z)
+first-absent-determined κs a = determined _ _ _ (λ z e p. p)
 
 is-blank-determined : (κs : _) (a : _) → Determined (is-blank-call.Learnt κs a) (λ z e. z)
 is-blank-determined κs a = determined _ _ _ (λ z e p. p)

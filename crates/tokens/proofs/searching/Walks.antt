@@ -1,13 +1,12 @@
 -- Walks along a list from its front: at place i, what is left gives what the whole gives.
 use mathlib.Core.Path.{_≡_, refl, sym, ap, _∙_}
 use Prim.Native.Nat.{_≤_, _<_}
-use native.Mathlib.Nat.{zero-add, add-zero, add-suc, suc-add}
-use native.Mathlib.Numerals.{add-one}
+use native.Mathlib.Nat.{zero-add, suc-add}
 use native.Mathlib.Omega.{arith}
 use lib.ListN.{length-drop, take-append-drop, drop-of-length-le}
 use lib.Seq.{take-add, drop-drop, length-take-le}
 use borrow.Author.Tests.{eq-eqb, ne-eqb, lt-ltb, ltb-true, ltb-false}
-use Rattle.rules.specs.Lists.{ℕ, suc, _+_, _-_, Bool, true, false, cond, _&&_, ltb, eqb, List, [], _∷_, _++_, length, take, drop, getD, every, allZero, occ, isIn, allDifferent, sameList, placeOf}
+use Rattle.rules.specs.Lists.{ℕ, suc, _+_, _-_, Bool, true, false, cond, _&&_, ltb, eqb, List, [], _∷_, _++_, length, take, drop, getD, every, allZero, occ, isIn, allDifferent, sameList, firstOf, placeOf}
 use Rattle.rules.proofs.Tests.{and-yes, and-no, and-right}
 use Rattle.laws.proofs.Occurrences.{occ-equal, occ-unequal, occ-append}
 use Rattle.laws.proofs.Tokens.{every-both}
@@ -16,7 +15,7 @@ use Rattle.laws.proofs.Parts.{part-rest}
 
 -- ---- a part without t, passed over whole
 absent-front : (t : ℕ) (xs ys : List ℕ) → occ t xs ≡ 0 → placeOf t (xs ++ ys) ≡ length xs + placeOf t ys
-unfolding placeOf occ
+unfolding firstOf placeOf occ
 absent-front t [] ys e = sym (zero-add (placeOf t ys))
 absent-front t (x ∷ xs) ys e = go (eqb t x) (absent-front t xs ys) e
   where
@@ -44,20 +43,6 @@ pub place-rest : (s : List ℕ) (i p t : ℕ) → p ≡ placeOf t (take (length 
 place-rest s i p t e f = ap (λ (n : ℕ). i + n) (e ∙ ap (placeOf t) (part-rest i s)) ∙ f
 
 module _ (s : List ℕ) (i : ℕ) where
-  -- ---- the place of t
-  module _ (t : ℕ) where
-    pub place-end : length s ≤ i → i + placeOf t (drop i s) ≡ i
-    unfolding placeOf
-    place-end l = rw (drop-of-length-le s l, add-zero)
-
-    pub place-hit : i < length s → getD s i 0 ≡ t → i + placeOf t (drop i s) ≡ i
-    unfolding placeOf
-    place-hit l e = rw (list-next s i l, eq-eqb t (getD s i 0) (sym e), add-zero)
-
-    pub place-miss : i < length s → (getD s i 0 ≡ t → ⊥) → i + placeOf t (drop i s) ≡ (i + 1) + placeOf t (drop (i + 1) s)
-    unfolding placeOf
-    place-miss l e = rw (list-next s i l, ne-eqb t (getD s i 0) (λ q. e (sym q)), add-suc, add-one, suc-add)
-
   -- ---- no token twice
   pub different-end : length s ≤ i → allDifferent (drop i s) ≡ true
   unfolding allDifferent

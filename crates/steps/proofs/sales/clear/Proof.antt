@@ -8,10 +8,13 @@ use Rattle.rules.specs.Hall.{mostHeld}
 use Rattle.rules.specs.Answers.{first}
 use Rattle.rules.specs.Records.{recordAt}
 use Rattle.book.specs.Forms.{formOf}
+use Rattle.rules.specs.Verdicts.{deadAt}
+use Rattle.rules.proofs.Dead.{told-none, told-dead}
 use Rattle.kinds.specs.Kinds.{clear}
-use Rattle.steps.proofs.Answered.{refused, granted}
+use Rattle.steps.proofs.Answered.{refused, granted, as-alone}
 use Rattle.steps.proofs.sales.Stood.{Case, called, all-stand}
-use Rattle.steps.proofs.sales.Cleared.{clearChain, gone-few, line-fit, first-gone, line-refused, clear-number, clear-written, account}
+use Rattle.steps.proofs.sales.Chained.{known-lives}
+use Rattle.steps.proofs.sales.Cleared.{clearChain, refused-dead, gone-few, line-fit, first-gone, line-refused, dead-is, clear-number, clear-written, account}
 use borrow.Author.Needs.{needs}
 use Rattle.steps.proofs.sales.clear.Statement.{statement}
 use Rattle.steps.proofs.sales.clear.Tie as tie
@@ -32,12 +35,21 @@ known-line-requires c κs = all-stand (case (c .before))
 same-length : tie.Need-same-length
 same-length c = search needs
 
+alone-requires : tie.Need-alone-requires
+alone-requires c κs = search needs
+
 abbrev at-find-from-known-line : tie.After-known-line → tie.After-find
 at-find-from-known-line c = c .before .before
 
 returns : tie.Need-returns
 unfolding clear
-returns c = refused _ _ _ _ (line-refused (case (at-find-from-known-line (c .before))) _ (c .before .known-line .ensures) (c .if1 .taken)) (c .if1 .taken)
+returns c =
+    let told = c .before in
+    let known = told .before .known-line .ensures in
+    as-alone (c .alone .ensures)
+    (told-none _ _ _ _ _
+    (refused _ _ _ _ (line-refused (case (at-find-from-known-line (told .before))) _ known (told .if1 .taken)) (told .if1 .taken))
+    (known-lives _ _ _ known))
 
 abbrev at-find-from-word-of-arg : tie.After-word-of-arg → tie.After-find
 at-find-from-word-of-arg c = at-find-from-known-line (c .before .before)
@@ -84,11 +96,11 @@ at-gather-line-from-tokens-at c = c .before .before .before
 array-share-prefix-gone : tie.Need-array-share-prefix-gone
 array-share-prefix-gone c = omega (arith, few (at-word-of (at-gather-line-from-tokens-at c)), at-gather-line-from-tokens-at c .gather-line .kept .1 .1 .1 .0)
 
-slice-aggregate-all-in : tie.Need-slice-aggregate-all-in
-slice-aggregate-all-in c = simp length-take (omega (arith, few (at-word-of (at-gather-line-from-tokens-at (c .before))), at-gather-line-from-tokens-at (c .before) .gather-line .kept .1 .1 .1 .0))
+slice-aggregate-first-absent : tie.Need-slice-aggregate-first-absent
+slice-aggregate-first-absent c = simp length-take (omega (arith, few (at-word-of (at-gather-line-from-tokens-at (c .before))), at-gather-line-from-tokens-at (c .before) .gather-line .kept .1 .1 .1 .0))
 
-all-in-requires : tie.Need-all-in-requires
-all-in-requires c κs = search needs
+first-absent-requires : tie.Need-first-absent-requires
+first-absent-requires c κs = search needs
 
 clear-requires : tie.Need-clear-requires
 clear-requires c κs = search needs
@@ -102,15 +114,33 @@ at-tokens-at c = c .before .before .before
 abbrev begun-from-clear : tie.After-clear → tie.Start
 begun-from-clear c = begun-from-find (at-find-from-gather-line (at-gather-line-from-tokens-at (at-tokens-at c)))
 
+dead : (c : tie.After-clear) → let s = begun-from-clear c .args in
+    c .before .first-absent .result ≡ deadAt (formOf (s .form)) (s .h) (s .tokens .now) (s .book .now) (s .e)
+dead c =
+    let gathered = at-gather-line-from-tokens-at (at-tokens-at c) in
+    dead-is (case (at-find-from-gather-line gathered)) _ (gone gathered) _ _ (at-tokens-at c .tokens-at .ensures) (c .before .first-absent .ensures)
+
 number : (c : tie.After-clear) → let s = begun-from-clear c .args in c .clear .result ≡ first (clearChain (formOf (s .form)) (s .h) (s .tokens .now) (s .book .now) (s .e))
 number c =
     let gathered = at-gather-line-from-tokens-at (at-tokens-at c) in
     let known = at-known-line (gathered .before) in
-    clear-number (case (known .before .before)) _ (gone gathered) _ _ _ _ (known .known-line .ensures) (at-word-of gathered .before .before .if1 .left) (at-tokens-at c .tokens-at .ensures) (c .before .all-in .ensures) (c .clear .ensures)
+    clear-number (case (known .before .before)) _ (gone gathered) _ _ _ _ (known .known-line .ensures) (at-word-of gathered .before .before .if1 .left) (dead c) (at-word-of gathered .word-of .ensures) (c .clear .ensures)
+
+cast-t29 : tie.Need-cast-t29
+cast-t29 c =
+    let asked = c .before in
+    omega (arith, refused-dead _ _ _ (asked .clear .ensures) (c .if2 .taken) .1, few (at-word-of (at-gather-line-from-tokens-at (at-tokens-at asked))))
 
 returns-2 : tie.Need-returns-2
 unfolding clear
-returns-2 c = refused _ _ _ _ (number (c .before)) (c .if2 .taken)
+returns-2 c =
+    let asked = c .before in
+    told-dead _ _ _ _ _
+    (refused _ _ _ _ (number asked) (c .if2 .taken))
+    (refused-dead _ _ _ (asked .clear .ensures) (c .if2 .taken) .0) _ (dead asked)
+
+alone-requires-2 : tie.Need-alone-requires-2
+alone-requires-2 c κs = search needs
 
 abbrev at-gather-line-from-settle-arg : tie.After-settle-arg → tie.After-gather-line
 at-gather-line-from-settle-arg c = at-gather-line-from-tokens-at (at-tokens-at (c .before .before))
@@ -138,8 +168,13 @@ at-gather-line-from-slice-known2 c = at-gather-line-from-settle-arg (c .before .
 returns-3 : tie.Need-returns-3
 unfolding clear
 returns-3 c =
-    granted _ _ _ _ (number (at-else2 c .before)) _ (at-else2 c .if2 .left)
-    (clear-written (case (at-find-from-gather-line (at-gather-line-from-slice-known2 c))) _ (gone (at-gather-line-from-slice-known2 c)) _ (c .before .before .settle .ensures))
+    let told = c .before in
+    let gathered = at-gather-line-from-slice-known2 told in
+    as-alone (c .alone2 .ensures)
+    (told-none _ _ _ _ _
+    (granted _ _ _ _ (number (at-else2 told .before)) _ (at-else2 told .if2 .left)
+    (clear-written (case (at-find-from-gather-line gathered)) _ (gone gathered) _ (told .before .before .settle .ensures)))
+    (λ z. omega arith))
 
 pub clear-spec : {M : Type 1} → statement M
 clear-spec =
@@ -147,6 +182,7 @@ clear-spec =
     (tie.spec
     find-requires
     known-line-requires
+    alone-requires
     same-length
     returns
     word-of-requires
@@ -156,13 +192,15 @@ clear-spec =
     gather-line-requires
     tokens-at-requires
     array-share-prefix-gone
-    slice-aggregate-all-in
-    all-in-requires
+    slice-aggregate-first-absent
+    first-absent-requires
     clear-requires
+    cast-t29
     same-length-2
     returns-2
     array-share-prefix-gone-2
     slice-aggregate-settle
     settle-requires
+    alone-requires-2
     same-length-3
     returns-3)

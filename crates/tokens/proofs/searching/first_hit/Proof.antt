@@ -1,23 +1,22 @@
--- The walk's invariant: the place is i and the place in what is left.
-use mathlib.Core.Path.{_≡_, refl, sym, _∙_}
-use Prim.Native.Nat.{_≤_, _<_, _+_, _-_}
-use native.Mathlib.Nat.{zero-add}
+-- The place is found in what is left.
+use mathlib.Core.Path.{_≡_, refl, sym}
+use Prim.Native.Nat.{_-_}
 use native.Mathlib.Omega.{arith}
-use lib.ListN.{length, drop}
-use Rattle.rules.specs.Lists.{placeOf}
-use Rattle.tokens.proofs.searching.Walks.{place-end, place-hit, place-miss}
+use borrow.Author.Tests.{eq-eqb, ne-eqb}
+use Rattle.rules.specs.Lists.{eqb, length, placeOf}
+use Rattle.laws.proofs.Loops.{Sought, sought-all, sought-end, sought-hit, sought-miss}
 use borrow.Author.Needs.{needs}
 use Rattle.tokens.proofs.searching.first_hit.Statement.{statement}
 use Rattle.tokens.proofs.searching.first_hit.Tie as tie
 
 abbrev Inv-loop : tie.InvT-loop
-Inv-loop list token n i₀ i = (n ≡ length list) × (i ≤ length list) × (i + placeOf token (drop i list) ≡ placeOf token list)
+Inv-loop list token n i₀ i = (n ≡ length list) × Sought (eqb token) list i
 
 abbrev μ-loop : tie.MeasureT-loop
 μ-loop list token n i₀ i = length list - i
 
 loop-holds : tie.Need-loop-holds Inv-loop μ-loop
-loop-holds c = (refl, omega arith, zero-add _)
+loop-holds c = (refl, sought-all _ _)
 
 mul-if2 : tie.Need-mul-if2 Inv-loop μ-loop
 mul-if2 c = search needs
@@ -37,19 +36,17 @@ looped c = c .before .before
 loop-again : tie.Need-loop-again Inv-loop μ-loop
 loop-again c =
     let l = looped (c .before) in
-    let h : l .loop .i < length (l .before .args .list .now) = omega arith in
-    (refl, omega arith, sym (place-miss _ _ _ h (c .if2 .left)) ∙ l .loop .inv .2)
+    (refl, sought-miss _ _ (l .loop .i) (l .loop .inv .1) (omega arith) (ne-eqb _ _ (λ q. c .if2 .left (sym q))))
 
 returns : tie.Need-returns Inv-loop μ-loop
-returns c =
-    let e : length (c .before .before .args .list .now) ≡ c .before .loop .i = omega arith in
-    e ∙ sym (place-end _ _ _ (omega arith)) ∙ c .before .loop .inv .2
+unfolding placeOf
+returns c = sought-end _ _ _ (c .before .loop .inv .1) (omega arith)
 
 returns-2 : tie.Need-returns-2 Inv-loop μ-loop
+unfolding placeOf
 returns-2 c =
     let l = looped (c .before) in
-    let h : l .loop .i < length (l .before .args .list .now) = omega arith in
-    sym (place-hit _ _ _ h (c .if2 .taken)) ∙ l .loop .inv .2
+    sought-hit _ _ (l .loop .i) (l .loop .inv .1) (omega arith) (eq-eqb _ _ (sym (c .if2 .taken)))
 
 pub first-hit-spec : {M : Type 1} → statement M
 first-hit-spec =
