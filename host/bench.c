@@ -36,6 +36,13 @@ static void add(size_t kind, size_t bench, size_t customer, size_t amount)
     put_entry(tape + 8 * records++, entry);
 }
 
+/* What lets a bench clear once. */
+static void add_handshake(size_t bench)
+{
+    add(7, bench, 0, 0);
+    add(8, bench, 0, 0);
+}
+
 /* A step of this kind for everybody that it may concern, some times over. */
 static void each(size_t kind, size_t rounds, size_t amount)
 {
@@ -87,7 +94,7 @@ static void settle(enum form form)
 /* As many steps of one kind as are granted one after the other, in a full hall. */
 static void lay_kind(size_t kind, enum form form)
 {
-    static const size_t rounds[] = {0, 1, 1, 1, 8, 16, 2, 32, 32, 1, 8}, amounts[] = {0, 10000, 0, 0, 2, 8, 2, 0, 0, 0, 2};
+    static const size_t rounds[] = {0, 1, 1, 1, 8, 16, 2, 32, 0, 0, 8}, amounts[] = {0, 10000, 0, 0, 2, 8, 2, 0, 0, 0, 2};
     list(kind <= 3 ? 0 : 1200);
     if (kind >= 3) {
         each(1, 1, 10000);
@@ -95,35 +102,74 @@ static void lay_kind(size_t kind, enum form form)
     }
     if (kind > 3)
         each(3, 1, 0);
-    if (kind == 6 || kind == 9)
+    if (kind == 6)
         each(4, 1, 32);
-    if (kind == 7 || kind == 8)
+    if (kind == 7)
         each(5, 1, 32);
-    if (kind == 9)
-        each(6, 2, 2);
     settle(form);
     each(kind, rounds[kind], amounts[kind]);
 }
 
-/* 30 rounds of two stocks, and for every customer an update, sales of 1, 2 and 3 at two benches, an authentication and
-   two clears: 3,420 records. */
+/* The desk's authentications, one for each bench, as each needs the bench's own before it. The tills have 3, 7, 11 .. 31
+   tokens: on average 17, where the benches' authentications, which empty every till, find 16.5. */
+static void lay_desks(size_t kind, enum form form)
+{
+    list(1200);
+    everybody_joins();
+    for (size_t bench = 0; bench < GS_BENCHES; bench++)
+        add(5, bench, 0, 4 * (bench + 1));
+    each(7, 1, 0);
+    settle(form);
+    each(kind, 1, 0);
+}
+
+/* The customer whose line a bench clears, 0 to 15 and 7.5 on average: the higher, the further back in the list a slip's
+   token is searched for. */
+static size_t cleared(size_t bench)
+{
+    return 2 * bench + bench % 2;
+}
+
+/* Clears, one for each bench, as each uses up a handshake. The line has two sales of 2, and the customer's lines at the
+   benches before this one are cleared: the desk's view of the customer has 32, 28, 24 .. 4 tokens. */
+static void lay_clears(size_t kind, enum form form)
+{
+    list(1200);
+    everybody_joins();
+    each(4, 1, 32);
+    each(6, 2, 2);
+    each(5, 1, 32);
+    for (size_t last = 0; last < GS_BENCHES; last++)
+        for (size_t bench = 0; bench < last; bench++) {
+            add_handshake(bench);
+            add(9, bench, cleared(last), 0);
+        }
+    for (size_t bench = 0; bench < GS_BENCHES; bench++)
+        add_handshake(bench);
+    settle(form);
+    for (size_t bench = 0; bench < GS_BENCHES; bench++)
+        add(kind, bench, cleared(bench), 0);
+}
+
+/* 24 rounds. A round is a stock of every bench with the 8 tokens that it needs, and for every customer an update, sales of
+   1, 2 and 3 at two benches, and at each of the two both authentications and a clear: 4,032 records. */
 static void lay_mixed(size_t kind, enum form form)
 {
     (void)kind;
     list(GS_MOST_TOKENS);
     everybody_joins();
     settle(form);
-    for (size_t round = 0; round < 30; round++) {
-        add(5, 2 * round % GS_BENCHES, 0, 8);
-        add(5, 2 * round % GS_BENCHES + 1, 0, 8);
+    for (size_t round = 0; round < 24; round++) {
+        each(5, 1, 8);
         for (size_t customer = 0; customer < GS_CUSTOMERS; customer++) {
             size_t one = (round + customer) % GS_BENCHES, other = (one + 3) % GS_BENCHES;
             add(4, 0, customer, 6);
             add(6, one, customer, 1);
             add(6, other, customer, 2);
             add(6, one, customer, 3);
-            add(7 + customer % 2, 2 * round % GS_BENCHES + customer / 8, 0, 0);
+            add_handshake(one);
             add(9, one, customer, 0);
+            add_handshake(other);
             add(9, other, customer, 0);
         }
     }
@@ -186,8 +232,8 @@ static const struct {
     {"stock", RUN, lay_kind, 5},
     {"sell", RUN, lay_kind, 6},
     {"bench authenticates", RUN, lay_kind, 7},
-    {"desk authenticates", RUN, lay_kind, 8},
-    {"clear", RUN, lay_kind, 9},
+    {"desk authenticates", RUN, lay_desks, 8},
+    {"clear", RUN, lay_clears, 9},
     {"top up", RUN, lay_kind, 10},
     {"is a full book sound", SOUND, lay_full, 0},
     {"is a day's book sound", SOUND, lay_day, 0},

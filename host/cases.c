@@ -60,9 +60,9 @@ static void store(size_t at, uint32_t word)
 }
 
 /* A record in use, with n tokens from the first on. */
-static void put_run(uint32_t record, uint32_t amount, uint32_t sales, uint32_t first, uint32_t n)
+static void put_run(uint32_t record, uint32_t amount, uint32_t word3, uint32_t first, uint32_t n)
 {
-    uint32_t head[] = {1, amount, n, sales};
+    uint32_t head[] = {1, amount, n, word3};
     for (uint32_t i = 0; i < 4; i++)
         store(place(record, i), head[i]);
     for (uint32_t i = 0; i < n; i++)

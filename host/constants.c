@@ -6,7 +6,7 @@
 #include <string.h>
 
 static uint32_t tokens[GS_MOST_TOKENS + 1], book[GS_BOOK_WORDS + 1], expected[GS_BOOK_WORDS];
-static uint8_t bytes[GS_BOOK_BYTES + 1], tape[9 * GS_TAPE_BYTES], verdicts[9], seconds[9];
+static uint8_t bytes[GS_BOOK_BYTES + 1], tape[12 * GS_TAPE_BYTES], verdicts[12], seconds[12];
 static int differences;
 
 static void is(const char *what, size_t found, size_t wanted)
@@ -48,19 +48,22 @@ static void expect(size_t record, uint32_t amount, uint32_t sales, size_t place,
 /* A day of one customer and one bench, after which each of their records differs from all others. */
 static void day(uint8_t bench, uint8_t customer)
 {
-    const uint8_t steps[9][2] = {{1, 9}, {2, 0}, {3, 0}, {4, 6}, {5, 2}, {6, 2}, {9, 0}, {6, 1}, {6, 1}};
-    for (size_t i = 0; i < 9; i++) {
-        uint8_t kind = steps[i][0], at = kind == 1 || kind == 4 ? 0 : bench, who = kind == 2 || kind == 5 ? 0 : customer;
+    const uint8_t steps[12][2] = {{1, 9}, {2, 0}, {3, 0}, {4, 6}, {5, 5}, {6, 2},
+                                  {7, 0}, {8, 0}, {9, 0}, {6, 1}, {6, 1}, {7, 0}};
+    for (size_t i = 0; i < 12; i++) {
+        uint8_t kind = steps[i][0], at = kind == 1 || kind == 4 ? 0 : bench;
+        uint8_t who = kind == 2 || kind == 5 || kind == 7 || kind == 8 ? 0 : customer;
         gs_write(kind, at, who, 0, steps[i][1], tape + GS_TAPE_BYTES * i, GS_TAPE_BYTES);
     }
     gs_empty(book, GS_BOOK_WORDS);
-    is("the run", gs_run(tokens, GS_MOST_TOKENS, book, GS_BOOK_WORDS, tape, sizeof tape, verdicts, 9, seconds, 9), 0);
+    is("the run", gs_run(tokens, GS_MOST_TOKENS, book, GS_BOOK_WORDS, tape, sizeof tape, verdicts, 12, seconds, 12), 0);
     memset(expected, 0, sizeof expected);
-    expect(GS_DESK, 8, 0, 0, 0);
+    expect(GS_DESK, 11, 0, 0, 0);
     expect(GS_CARNET(customer), 0, 0, 4, 2);
     expect(GS_CUSTOMER_VIEW(customer), 3, 0, 2, 4);
-    expect(GS_BENCH_VIEW(bench), 2, 0, 6, 2);
-    expect(GS_TILL(bench), 0, 0, 6, 2);
+    expect(GS_BENCH_VIEW(bench), 2, 0, 9, 2);
+    expected[GS_WORD(GS_BENCH_VIEW(bench), GS_HANDSHAKE)] = 1; /* the bench's part of a second one */
+    expect(GS_TILL(bench), 0, 0, 9, 2);
     expect(GS_LINE(bench, customer), 0, 2, 2, 2);
     uint32_t *line = expected + GS_WORD(GS_LINE(bench, customer), GS_CELLS);
     line[0] = tokens[3]; /* the newest first */
@@ -74,9 +77,13 @@ static uint16_t step(uint8_t kind, uint8_t bench, uint8_t customer, uint32_t amo
     return gs_step(tokens, GS_MOST_TOKENS, book, GS_BOOK_WORDS, kind, bench, customer, 0, amount);
 }
 
-/* After the day an update kills the two tokens that wait, and two that are sold then come before them. */
+/* After the day the desk completes the handshake. An update kills the two tokens that wait, and two that are sold then come
+   before them. */
 static void dead(uint8_t bench, uint8_t customer)
 {
+    is("a clear with half a handshake", step(9, bench, customer, 0), 17);
+    is("the other half", step(8, bench, 0, 0), 0);
+    is("the handshake", book[GS_WORD(GS_BENCH_VIEW(bench), GS_HANDSHAKE)], 2);
     is("an update's verdict", GS_VERDICT(step(4, 0, customer, 0)), 0);
     is("a sale's two numbers", step(6, bench, customer, 2), 0);
     uint16_t answer = step(9, bench, customer, 0);

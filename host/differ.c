@@ -16,20 +16,21 @@ static const struct counts RIGHT = {0, GS_BOOK_WORDS, GS_BOOK_WORDS, 0, 0, 0, GS
 
 /* ---- how often each number was answered ---- */
 
-enum { NUMBERS = 17 };
+enum { NUMBERS = 18 };
 enum tally {
-    PLAIN_STEPS, SLIP_STEPS, PLAIN_SOUND, SLIP_SOUND, OPENED, READER, WRITER, TOP_UPS,
+    PLAIN_STEPS, SLIP_STEPS, PLAIN_SOUND, SLIP_SOUND, OPENED, READER, WRITER, HANDSHAKES, CLEARS, TOP_UPS,
     PLAIN_PLACES, SLIP_PLACES, WITHIN_SLIPS, ODD_SECONDS, TALLIES
 };
-enum { TOP_UP = 10 };
+enum { DESK_AUTHENTICATES = 8, CLEAR, TOP_UP };
 
 static const struct {
     const char *name;
     uint32_t can; /* a bit for each number that can be answered */
 } ANSWERS[TALLIES] = {
-    {"plain book", 0x1ffff}, {"slip book", 0x1ffff}, {"plain sound", 3}, {"slip sound", 3},
-    {"slips opened", 3},     {"reader", 0x1000d},    {"writer", 0x1000d}, {"top ups", 0xaf},
-    {"plain places", 7},     {"slip places", 7},     {"within slips", 6}, {"odd seconds", 0x10002},
+    {"plain book", 0x3ffff}, {"slip book", 0x3ffff},   {"plain sound", 3},    {"slip sound", 3},
+    {"slips opened", 3},     {"reader", 0x1000d},      {"writer", 0x1000d},   {"handshakes", 0x2602f},
+    {"clears", 0x2806f},     {"top ups", 0xaf},        {"plain places", 7},   {"slip places", 7},
+    {"within slips", 6},     {"odd seconds", 0x10002},
 };
 static const enum tally STEPS[] = {PLAIN_STEPS, SLIP_STEPS}, SOUND[] = {PLAIN_SOUND, SLIP_SOUND};
 static const enum tally PLACES[] = {PLAIN_PLACES, SLIP_PLACES};
@@ -49,13 +50,13 @@ static void tell_place(enum tally tally, uint8_t place)
     tell(tally, place < 2 ? place : place < 32 ? 2 : place);
 }
 
-/* The two numbers of a step. Top ups are counted by themselves too: other kinds get the same numbers, so the books'
-   tallies wouldn't show it if none were tried at its bound. */
+/* The two numbers of a step. The desk's authentications, clears and top ups are counted by themselves too, in this order:
+   other kinds get the same numbers, so the books' tallies wouldn't show it if one of these never got what it can get. */
 static uint16_t tell_step(enum form form, uint8_t kind, uint16_t answer)
 {
     uint8_t verdict = GS_VERDICT(answer), second = GS_SECOND(answer);
-    if (kind == TOP_UP)
-        tell(TOP_UPS, verdict);
+    if (kind >= DESK_AUTHENTICATES && kind <= TOP_UP)
+        tell((enum tally)(HANDSHAKES + kind - DESK_AUTHENTICATES), verdict);
     if (tell(STEPS[form], verdict) == 15)
         tell_place(PLACES[form], second);
     else if (second != 0)
@@ -125,7 +126,7 @@ static struct counts with_tape(struct counts c, size_t records)
    short where the list is. */
 static struct counts lay_tape(struct counts c, int joining)
 {
-    size_t records = draw(chance(20) ? 4 : chance(15) ? MOST_RECORDS + 1 : 20 + (c.tokens < 500 ? c.tokens / 2 : 250));
+    size_t records = draw(chance(20) ? 4 : chance(15) ? MOST_RECORDS + 1 : 20 + (c.tokens < 500 ? c.tokens : 500) * 3 / 4);
     draw_tape(LENT[HAND].tape, records, joining);
     return with_tape(c, records);
 }
@@ -148,6 +149,12 @@ static void grow(enum form form, struct counts c)
 static void lend_book(const uint32_t *kept)
 {
     memcpy(LENT[HAND].book, kept, sizeof LENT[HAND].book);
+    share();
+}
+
+static void load_handshake(uint8_t bench, uint32_t handshake)
+{
+    LENT[HAND].book[GS_WORD(GS_BENCH_VIEW(bench), GS_HANDSHAKE)] = handshake;
     share();
 }
 
@@ -300,6 +307,22 @@ static void try_odd_seconds(enum form form, struct counts c, uint8_t unsound)
         try_refused(form, c, unsound ? 1 : 16);
 }
 
+/* Each line that waits is cleared from the same book, with a handshake loaded for it: the tills of a bent book are seldom
+   good for one, so that tapes alone would come to few of its lines. */
+static void try_clears(enum form form, struct counts c)
+{
+    static uint32_t kept[BOOK_ROOM];
+    memcpy(kept, LENT[HAND].book, sizeof kept);
+    for (uint8_t line = 0; line < GS_BENCHES * GS_CUSTOMERS; line++) {
+        struct entry clear = {CLEAR, line / GS_CUSTOMERS, line % GS_CUSTOMERS, 0, 0};
+        if (kept[GS_WORD(GS_LINE(clear.bench, clear.customer), GS_COUNT)] == 0)
+            continue;
+        load_handshake(clear.bench, 2);
+        try_step(form, c, clear);
+        lend_book(kept);
+    }
+}
+
 /* A loaded book: is it sound in either form, what does it open to, and what does a tape do to it. */
 static void try_loaded(struct counts c, int spoilt)
 {
@@ -309,6 +332,8 @@ static void try_loaded(struct counts c, int spoilt)
         bend(form, c);
     if (spoilt)
         spoil(form, c);
+    else if (c.tokens <= 1000)
+        try_clears(form, c);
     c = lay_tape(c, chance(40));
     share();
     uint8_t plain = tell(PLAIN_SOUND, both_sound(PLAIN, c)), slip = tell(SLIP_SOUND, both_sound(SLIP, c));
@@ -401,50 +426,58 @@ static void try_writer(struct counts c)
         disagrees("written and read", "an entry of this kind", NO_PLACE, entry.kind, back.kind);
 }
 
-/* ---- the twelve steps of document 01 ---- */
+/* ---- the worked example ---- */
 
-static const struct entry TWELVE[12] = {{1, 0, 3, 0, 9}, {2, 1, 0, 0, 0}, {3, 1, 3, 0, 0}, {4, 0, 3, 0, 5},
-                                        {6, 1, 3, 0, 2}, {5, 1, 0, 0, 2}, {6, 1, 3, 0, 4}, {9, 1, 3, 0, 0},
-                                        {4, 0, 3, 0, 0}, {4, 0, 3, 0, 5}, {4, 0, 3, 0, 1}, {7, 1, 0, 0, 0}};
-static const uint8_t TWELVE_VERDICTS[12] = {0, 0, 0, 0, 0, 0, 11, 0, 0, 8, 10, 0};
+/* Document 01's listing with both authentications before its clear, and what each step gets. */
+enum { EXAMPLE_STEPS = 14, EXAMPLE_TOKENS = 12 };
+static const struct entry EXAMPLE[EXAMPLE_STEPS] = {
+    {1, 0, 3, 0, 9}, {2, 1, 0, 0, 0}, {3, 1, 3, 0, 0}, {4, 0, 3, 0, 5}, {6, 1, 3, 0, 2}, {5, 1, 0, 0, 2}, {6, 1, 3, 0, 4},
+    {7, 1, 0, 0, 0}, {8, 1, 0, 0, 0}, {9, 1, 3, 0, 0}, {4, 0, 3, 0, 0}, {4, 0, 3, 0, 5}, {4, 0, 3, 0, 1}, {7, 1, 0, 0, 0}};
+static const uint8_t EXAMPLE_VERDICTS[EXAMPLE_STEPS] = {0, 0, 0, 0, 0, 0, 11, 0, 0, 0, 0, 8, 10, 13};
 
-/* Words of the book afterwards: customer 3 has a budget of 4 and 3 tokens, bench 1 a balance of 2 and 1 token in its
-   till, and nothing waits. */
-static const size_t TWELVE_WORDS[][2] = {
+/* Words of the book afterwards: customer 3 has a budget of 4 and 3 tokens, bench 1 a balance of 2 and an empty till; its
+   handshake is used up, and nothing waits. */
+static const size_t EXAMPLE_WORDS[][2] = {
     {GS_WORD(GS_CUSTOMER_VIEW(3), GS_AMOUNT), 4}, {GS_WORD(GS_CUSTOMER_VIEW(3), GS_COUNT), 3},
     {GS_WORD(GS_CARNET(3), GS_COUNT), 3},         {GS_WORD(GS_BENCH_VIEW(1), GS_AMOUNT), 2},
-    {GS_WORD(GS_TILL(1), GS_COUNT), 1},           {GS_WORD(GS_LINE(1, 3), GS_COUNT), 0},
+    {GS_WORD(GS_BENCH_VIEW(1), GS_HANDSHAKE), 0}, {GS_WORD(GS_BENCH_VIEW(1), GS_COUNT), 0},
+    {GS_WORD(GS_TILL(1), GS_COUNT), 0},           {GS_WORD(GS_LINE(1, 3), GS_COUNT), 0},
 };
 
-static void try_twelve(enum form form)
+static void try_example(enum form form)
 {
-    struct counts c = with_tape(RIGHT, 12);
-    c.tokens = 12;
-    for (uint32_t i = 0; i < 12; i++) {
+    struct counts c = with_tape(RIGHT, EXAMPLE_STEPS);
+    c.tokens = EXAMPLE_TOKENS;
+    for (uint32_t i = 0; i < EXAMPLE_TOKENS; i++)
         LENT[HAND].tokens[i] = 21 + i;
-        put_entry(LENT[HAND].tape + 8 * i, TWELVE[i]);
-    }
+    for (size_t i = 0; i < EXAMPLE_STEPS; i++)
+        put_entry(LENT[HAND].tape + 8 * i, EXAMPLE[i]);
     share();
     both_empty(c);
     try_steps(form, c);
-    for (size_t i = 0; i < 12; i++)
-        if (LENT[PROVED].verdicts[i] != TWELVE_VERDICTS[i])
-            differs("twelve steps", "verdict", i, TWELVE_VERDICTS[i], LENT[PROVED].verdicts[i]);
-    for (size_t i = 0; i < sizeof TWELVE_WORDS / sizeof TWELVE_WORDS[0]; i++) {
-        size_t place = TWELVE_WORDS[i][0], expected = TWELVE_WORDS[i][1];
+    for (size_t i = 0; i < EXAMPLE_STEPS; i++)
+        if (LENT[PROVED].verdicts[i] != EXAMPLE_VERDICTS[i])
+            differs("worked example", "verdict", i, EXAMPLE_VERDICTS[i], LENT[PROVED].verdicts[i]);
+    for (size_t i = 0; i < sizeof EXAMPLE_WORDS / sizeof EXAMPLE_WORDS[0]; i++) {
+        size_t place = EXAMPLE_WORDS[i][0], expected = EXAMPLE_WORDS[i][1];
         if (LENT[PROVED].book[place] != expected)
-            differs("twelve steps", "book", place, expected, LENT[PROVED].book[place]);
+            differs("worked example", "book", place, expected, LENT[PROVED].book[place]);
     }
 }
 
 /* ---- every number, whatever the seed ---- */
 
-/* The steps of two customers, of one who never joins and of a bench over 64 tokens, and what they get: the numbers that a
-   book grown from empty answers. Who they are is drawn. The two have joined with 59 and may have 2,000,000 together, so
-   that one is topped up to more than anybody may join with, and trades on. The other's updates kill what waits in the
-   line, and further sales stand before it. In the end the first has 32 tokens, all of which wait, in two sales. */
-enum { FIRST = 100, SECOND, NOBODY, BENCH };
+/* The steps of two customers and a bench, and of one of each that never joins, and what they get: the numbers that a book
+   grown from empty answers. Who they are is drawn. The two have joined with 59 and may have 2,000,000 together, so that one
+   is topped up to more than anybody may join with, and trades on. The other's updates kill what waits in the line, and
+   further sales stand before it. In the end the first has 32 tokens, all of which wait, in two sales. */
+enum { FIRST = 100, SECOND, NOBODY, BENCH, NO_BENCH };
+enum { TOUR_TOKENS = 86 }; /* one too few for the last update */
 #define DEAD_AT(place) (15 | (place) << 8)
+#define BY_BENCH(answer) {{7, BENCH, 0, 0, 0}, 1, answer}
+#define BY_DESK(answer) {{8, BENCH, 0, 0, 0}, 1, answer}
+#define CLEAR_OF(customer, answer) {{9, BENCH, customer, 0, 0}, 1, answer}
+#define STOCK_OF(amount, answer) {{5, BENCH, 0, 0, amount}, 1, answer}
 static const struct {
     struct entry entry;
     uint8_t times;
@@ -452,26 +485,45 @@ static const struct {
 } TOUR[] = {
     {{1, 0, FIRST, 0, 50}, 1, 0},  {{1, 0, FIRST, 0, 50}, 1, 4},     {{2, BENCH, 0, 0, 0}, 1, 0},
     {{1, 0, SECOND, 0, 9}, 1, 0},  {{4, 0, NOBODY, 0, 1}, 1, 5},     {{6, BENCH, FIRST, 0, 0}, 1, 6},
+    {{8, NO_BENCH, 0, 0, 0}, 1, 5}, CLEAR_OF(NOBODY, 5),             CLEAR_OF(FIRST, 6),
     {{3, BENCH, FIRST, 0, 0}, 1, 0}, {{3, BENCH, SECOND, 0, 0}, 1, 0}, {{1, 0, NOBODY, 0, 1000001}, 1, 7},
     {{4, 0, FIRST, 0, 51}, 1, 8},  {{4, 0, FIRST, 0, 33}, 1, 9},     {{4, 0, FIRST, 0, 17}, 1, 0},
     {{6, BENCH, FIRST, 0, 18}, 1, 11}, {{6, BENCH, FIRST, 0, 1}, 16, 0}, {{6, BENCH, FIRST, 0, 1}, 1, 12},
-    {{7, BENCH, 0, 0, 0}, 1, 13},  {{9, BENCH, FIRST, 0, 0}, 1, 0},  {{4, 0, SECOND, 0, 2}, 1, 0},
-    {{6, BENCH, SECOND, 0, 1}, 1, 0}, {{4, 0, SECOND, 0, 0}, 1, 0},  {{9, BENCH, SECOND, 0, 0}, 1, DEAD_AT(0)},
-    {{6, BENCH, SECOND, 0, 1}, 1, 0}, {{9, BENCH, SECOND, 0, 0}, 1, DEAD_AT(1)}, {{4, 0, SECOND, 0, 1}, 1, 0},
-    {{6, BENCH, SECOND, 0, 3}, 1, 0}, {{9, BENCH, SECOND, 0, 0}, 1, DEAD_AT(3)}, {{5, BENCH, 0, 0, 2}, 1, 0},
-    {{11, 0, 0, 0, 0}, 1, 2},      {{2, 8, 0, 0, 0}, 1, 3},          {{10, 1, FIRST, 0, 1}, 1, 2},
-    {{10, 0, FIRST, 1, 1}, 1, 2},  {{10, 0, 16, 0, 1}, 1, 3},        {{10, 0, NOBODY, 0, 2000000}, 1, 5},
-    {{10, 0, FIRST, 0, 4294967295}, 1, 7}, {{10, 0, FIRST, 0, 1999942}, 1, 7}, {{10, 0, FIRST, 0, 1999941}, 1, 0},
-    {{10, 0, SECOND, 0, 1}, 1, 7}, {{10, 0, SECOND, 0, 0}, 1, 0},    {{4, 0, FIRST, 0, 3}, 1, 0},
-    {{6, BENCH, FIRST, 0, 2}, 1, 0}, {{9, BENCH, FIRST, 0, 0}, 1, 0}, {{10, 0, FIRST, 0, 1}, 1, 7},
-    {{4, 0, FIRST, 0, 30}, 1, 0},  {{6, BENCH, FIRST, 0, 3}, 1, 0},  {{6, BENCH, FIRST, 0, 29}, 1, 0},
-    {{4, 0, SECOND, 0, 1}, 1, 10},
+    {{4, 0, SECOND, 0, 2}, 1, 0},  {{6, BENCH, SECOND, 0, 1}, 1, 0},
+
+    /* With an empty till: no handshake, where 17 comes before 13, then half of one. */
+    BY_BENCH(13), BY_DESK(17), CLEAR_OF(FIRST, 17),
+    STOCK_OF(1, 0), BY_DESK(17), BY_BENCH(0), BY_DESK(13), CLEAR_OF(FIRST, 17),
+    /* A stock undoes the half. The bench may begin again whenever it likes; the desk can't do its part twice. */
+    STOCK_OF(9, 0), BY_DESK(17), BY_BENCH(0), BY_BENCH(0), BY_DESK(0), BY_DESK(17),
+    BY_BENCH(0), CLEAR_OF(FIRST, 17), BY_DESK(0),
+    /* A stock undoes the whole too, even one of nothing, but not one that is refused. */
+    STOCK_OF(0, 0), CLEAR_OF(FIRST, 17), STOCK_OF(4, 0), BY_BENCH(0), BY_DESK(0), STOCK_OF(33, 7), CLEAR_OF(FIRST, 0),
+    /* A clear uses it up for all lines. The next one is of the till's last two tokens. */
+    CLEAR_OF(SECOND, 17), BY_DESK(17), BY_BENCH(0), BY_DESK(0), BY_BENCH(13), BY_DESK(17),
+    CLEAR_OF(SECOND, 0), CLEAR_OF(SECOND, 17),
+    /* So does the clear of an empty line; a clear that is refused leaves it. */
+    STOCK_OF(2, 0), BY_BENCH(0), BY_DESK(0), CLEAR_OF(SECOND, 0), CLEAR_OF(FIRST, 17),
+    STOCK_OF(8, 0), BY_BENCH(0), BY_DESK(0),
+
+    {{6, BENCH, SECOND, 0, 1}, 1, 0}, {{4, 0, SECOND, 0, 0}, 1, 0},  CLEAR_OF(SECOND, DEAD_AT(0)),
+    {{6, BENCH, SECOND, 0, 1}, 1, 0}, CLEAR_OF(SECOND, DEAD_AT(1)),  {{4, 0, SECOND, 0, 2}, 1, 0},
+    {{6, BENCH, SECOND, 0, 3}, 1, 0}, CLEAR_OF(SECOND, DEAD_AT(3)),
+    BY_BENCH(0), CLEAR_OF(SECOND, 17), BY_DESK(0),
+    {{11, 0, 0, 0, 0}, 1, 2},      {{2, 8, 0, 0, 0}, 1, 3},          {{8, BENCH, 0, 0, 1}, 1, 2},
+    {{8, 8, 0, 0, 0}, 1, 3},       {{9, BENCH, FIRST, 1, 0}, 1, 2},  {{9, 8, FIRST, 0, 0}, 1, 3},
+    {{10, 1, FIRST, 0, 1}, 1, 2},  {{10, 0, FIRST, 1, 1}, 1, 2},     {{10, 0, 16, 0, 1}, 1, 3},
+    {{10, 0, NOBODY, 0, 2000000}, 1, 5}, {{10, 0, FIRST, 0, 4294967295}, 1, 7}, {{10, 0, FIRST, 0, 1999942}, 1, 7},
+    {{10, 0, FIRST, 0, 1999941}, 1, 0}, {{10, 0, SECOND, 0, 1}, 1, 7}, {{10, 0, SECOND, 0, 0}, 1, 0},
+    {{4, 0, FIRST, 0, 3}, 1, 0},   {{6, BENCH, FIRST, 0, 2}, 1, 0},  CLEAR_OF(FIRST, 0),
+    {{10, 0, FIRST, 0, 1}, 1, 7},  {{4, 0, FIRST, 0, 30}, 1, 0},     {{6, BENCH, FIRST, 0, 3}, 1, 0},
+    {{6, BENCH, FIRST, 0, 29}, 1, 0}, {{4, 0, SECOND, 0, 1}, 1, 10},
 };
 
 static struct entry named(struct entry e, uint8_t bench, uint8_t customer)
 {
-    if (e.bench == BENCH)
-        e.bench = bench;
+    if (e.bench >= BENCH)
+        e.bench = (uint8_t)((bench + e.bench - BENCH) % 8);
     if (e.customer >= FIRST)
         e.customer = (uint8_t)((customer + e.customer - FIRST) % 16);
     return e;
@@ -502,15 +554,45 @@ static struct counts try_tour(enum form form, struct counts c, uint8_t bench, ui
     return c;
 }
 
-/* The tokens of a till are exchanged. */
+/* Asked whether it is sound with this word 3 in a record, the book gets this number. */
+static void try_word_3(enum form form, struct counts c, size_t record, uint32_t word, uint8_t number)
+{
+    uint32_t *handshake = &LENT[HAND].book[GS_WORD(record, GS_HANDSHAKE)], kept = *handshake;
+    *handshake = word;
+    share();
+    uint8_t answer = tell(SOUND[form], both_sound(form, c));
+    if (answer != number)
+        disagrees("a word 3", "answer", record, number, answer);
+    *handshake = kept;
+    share();
+}
+
+/* Word 3 of all sorts of records but lines, in use or not. */
+static void try_words_3(enum form form, struct counts c, uint8_t bench, uint8_t customer)
+{
+    size_t others[] = {GS_DESK, GS_CARNET(customer), GS_CUSTOMER_VIEW(customer), GS_TILL(bench),
+                       GS_BENCH_VIEW((bench + 1) % GS_BENCHES)};
+    uint32_t words[] = {0, 1, 2, 3, 4, 257, 4294967295};
+    for (size_t i = 0; i < sizeof words / sizeof words[0]; i++) {
+        try_word_3(form, c, GS_BENCH_VIEW(bench), words[i], words[i] > 2);
+        for (size_t other = 0; other < sizeof others / sizeof others[0]; other++)
+            try_word_3(form, c, others[other], words[i], words[i] > 0);
+    }
+}
+
+/* The tokens of a till are exchanged; 17 comes before 14. */
 static void try_exchanged(enum form form, struct counts c, uint8_t bench)
 {
     uint32_t *till = LENT[HAND].book + GS_WORD(GS_TILL(bench), GS_CELLS), first = till[0];
     till[0] = till[1];
     till[1] = first;
-    share();
-    tell(SOUND[form], both_sound(form, c));
-    agree("a token that differs", NO_PLACE, 14, try_step(form, c, (struct entry){7, bench, 0, 0, 0}));
+    for (uint32_t handshake = 0; handshake <= 2; handshake++) {
+        load_handshake(bench, handshake);
+        tell(SOUND[form], both_sound(form, c));
+        agree("a token that differs", handshake, 14, try_step(form, c, (struct entry){7, bench, 0, 0, 0}));
+        uint16_t answer = try_step(form, c, (struct entry){DESK_AUTHENTICATES, bench, 0, 0, 0});
+        agree("a token that differs, to the desk", handshake, handshake == 1 ? 14 : 17, answer);
+    }
 }
 
 /* The tokens that the desk's view of the first customer loses, one after the other, by their places in the view as the
@@ -522,11 +604,12 @@ static void try_lost(enum form form, struct counts c, uint8_t bench, uint8_t cus
 {
     uint32_t *view = LENT[HAND].book + GS_WORD(GS_CUSTOMER_VIEW(customer), 0), held[32];
     memcpy(held, view + GS_CELLS, sizeof held);
+    load_handshake(bench, 2);
     for (size_t i = 0; i < sizeof LOST / sizeof LOST[0]; i++) {
         take_out(view, held[LOST[i][0]]);
         share();
         tell(SOUND[form], both_sound(form, c));
-        agree("a token lost", i, DEAD_AT(LOST[i][1]), try_step(form, c, (struct entry){9, bench, customer, 0, 0}));
+        agree("a token lost", i, DEAD_AT(LOST[i][1]), try_step(form, c, (struct entry){CLEAR, bench, customer, 0, 0}));
     }
 }
 
@@ -561,20 +644,22 @@ static void try_unsound(enum form form, struct counts c)
     try_lengths(form, c, 1);
     tell(SOUND[form], both_sound(form, c));
     tell(OPENED, both_open(c));
-    agree("a top up in an unsound book", NO_PLACE, 1, try_step(form, c, (struct entry){TOP_UP, 0, 0, 0, 0}));
+    for (uint8_t kind = DESK_AUTHENTICATES; kind <= TOP_UP; kind++)
+        agree("a step in an unsound book, of kind", kind, 1, try_step(form, c, (struct entry){kind, 0, 0, 0, 0}));
 }
 
-/* Every number that can be answered is, and is the one that documents 01 and 02 say: those of the tour, then 14, then 15
-   with the places that only a loaded book has, 16 for other lengths, and 1 where the desk isn't in use, or where no word
-   could be higher. */
+/* Every number that can be answered is, and is the one that documents 01 and 02 say: those of the tour, then 0 and 1 for
+   each word 3, then 14, then 15 with the places that only a loaded book has, 16 for other lengths, and 1 where the desk
+   isn't in use, or where no word could be higher. */
 static void try_numbers(enum form form)
 {
     struct counts c = RIGHT;
     uint8_t bench = (uint8_t)draw(8), customer = (uint8_t)draw(16);
     lay_junk();
-    c.tokens = 64;
+    c.tokens = TOUR_TOKENS;
     draw_list(LENT[HAND].tokens, c.tokens);
     c = try_tour(form, c, bench, customer);
+    try_words_3(form, c, bench, customer);
     try_exchanged(form, c, bench);
     try_lost(form, c, bench, customer);
     tell(OPENED, both_open(c));
@@ -638,7 +723,7 @@ int main(int words, char **word)
     draw_from(seed);
     for (int form = PLAIN; form <= SLIP; form++) {
         STANDING.form = (enum form)form;
-        try_twelve((enum form)form);
+        try_example((enum form)form);
         try_numbers((enum form)form);
     }
     for (STANDING.number = 1; STANDING.number <= cases; STANDING.number++) {

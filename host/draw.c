@@ -4,6 +4,7 @@
 enum { CARNETS = GS_CARNET(0), CUSTOMER_VIEWS = GS_CUSTOMER_VIEW(0), BENCH_VIEWS = GS_BENCH_VIEW(0), TILLS = GS_TILL(0) };
 enum { LINES = GS_LINE(0, 0), RECORDS = GS_BOOK_RECORDS };
 enum { IN_USE = GS_IN_USE, AMOUNT = GS_AMOUNT, COUNT = GS_COUNT, SALES = GS_SALES, CELL = GS_CELLS };
+enum { HANDSHAKE = GS_HANDSHAKE };
 
 /* ---- numbers ---- */
 
@@ -140,12 +141,43 @@ static void add_joins(struct drawing *d)
     }
 }
 
-/* Every line is cleared as a loaded book has it, before an update kills its tokens. */
+/* What comes between a handshake and its clear: a stock, some of them refused as too large, or one more authentication.
+   Where it is granted the clear isn't. */
+static void add_late(struct drawing *d, uint8_t bench)
+{
+    if (chance(50))
+        add(d, 5, bench, 0, draw(chance(50) ? 3 : 66));
+    else
+        add(d, 7 + draw(2), bench, 0, 0);
+}
+
+/* A clear and what it needs: so many times in a hundred a fresh stock, as the till may be empty, and both authentications,
+   of which now and then one is missing. */
+static void add_clear(struct drawing *d, uint8_t bench, uint8_t customer, size_t stocked)
+{
+    if (chance(stocked))
+        add(d, 5, bench, 0, 2 + draw(3));
+    if (chance(97))
+        add(d, 7, bench, 0, 0);
+    if (chance(97))
+        add(d, 8, bench, 0, 0);
+    if (chance(6))
+        add_late(d, bench);
+    add(d, 9, bench, customer, 0);
+}
+
+/* Every line is cleared as a loaded book has it, before an update kills its tokens. Each bench first goes on from a
+   handshake that the book may have; where the list is dealt out, a stock would leave its till empty. */
 static void add_clears(struct drawing *d)
 {
-    for (uint8_t m = parties.first_bench; m < parties.first_bench + parties.benches; m++)
+    size_t stocked = chance(50) ? 0 : 70;
+    for (uint8_t m = parties.first_bench; m < parties.first_bench + parties.benches; m++) {
+        for (size_t kind = 7 + draw(3); kind < 9; kind++)
+            add(d, kind, m, 0, 0);
+        add(d, 9, m, any_customer(), 0);
         for (uint8_t c = parties.first_customer; c < parties.first_customer + parties.customers; c++)
-            add(d, 9, m, c, 0);
+            add_clear(d, m, c, stocked);
+    }
 }
 
 /* Somebody joins or a line is opened, mostly for the second time. */
@@ -168,7 +200,7 @@ static void add_visit(struct drawing *d)
     }
     for (size_t i = 0; i < sales; i++)
         if (chance(95))
-            add(d, 9, benches[i], customer, 0);
+            add_clear(d, benches[i], customer, 70);
 }
 
 static void add_authentications(struct drawing *d)
@@ -272,8 +304,10 @@ void draw_tape(uint8_t *tape, size_t records, int joining)
             add_authentications(&d);
         else if (scene < 80)
             add_small_sales(&d);
-        else if (scene < 88)
+        else if (scene < 85)
             add(&d, 9, any_bench(), any_customer(), 0);
+        else if (scene < 88)
+            add_clear(&d, any_bench(), any_customer(), 70);
         else if (scene < 90)
             add_join(&d);
         else if (scene < 93)
@@ -291,6 +325,8 @@ void draw_sales(uint8_t *tape, size_t records)
     while (d.filled < records) {
         uint8_t customer = any_customer();
         add(&d, 4, 0, customer, draw(12));
+        if (chance(50))
+            add(&d, 5, any_bench(), 0, draw(33));
         for (size_t sales = 1 + draw(4); sales > 0; sales--)
             add(&d, 6, any_bench(), customer, 1 + draw(6));
     }
@@ -417,7 +453,7 @@ static void bend_less(enum form form, uint32_t *book)
     for (size_t i = from; i < record[COUNT]; i++)
         record[CELL + i] = record[CELL + i + 1];
     record[CELL + record[COUNT]] = 0;
-    if (record[SALES] > record[COUNT])
+    if (place >= LINES && record[SALES] > record[COUNT])
         record[SALES] = record[COUNT];
 }
 
@@ -477,7 +513,8 @@ static void bend_run(enum form form, const uint32_t *tokens, size_t n, uint32_t 
     for (size_t i = 0; i < 32; i++)
         record[CELL + i] = i < count ? tokens[from + i] : 0;
     record[COUNT] = (uint32_t)count;
-    record[SALES] = place < LINES ? 0 : (uint32_t)draw(18);
+    if (place >= LINES)
+        record[SALES] = (uint32_t)draw(18);
 }
 
 /* A count that takes in the cell behind, which holds a zero, or leaves out the last: where 0 is a token, that may be
@@ -524,6 +561,14 @@ static void bend_use(uint32_t *book)
         record_of(book, right)[IN_USE] = used;
 }
 
+/* Handshakes of all benches that have joined, however full their tills are. */
+static void bend_handshakes(uint32_t *book)
+{
+    for (size_t view = BENCH_VIEWS; view < TILLS; view++)
+        if (record_of(book, view)[IN_USE] == 1)
+            record_of(book, view)[HANDSHAKE] = chance(50) ? 2 : (uint32_t)draw(chance(95) ? 3 : 5);
+}
+
 static void bend_by_list(enum form form, const uint32_t *tokens, size_t n, uint32_t *book)
 {
     switch (draw(5)) {
@@ -546,7 +591,7 @@ static void bend_by_list(enum form form, const uint32_t *tokens, size_t n, uint3
 
 static void bend_by_itself(enum form form, uint32_t *book)
 {
-    switch (draw(8)) {
+    switch (draw(9)) {
     case 0:
         bend_money(book);
         break;
@@ -568,6 +613,9 @@ static void bend_by_itself(enum form form, uint32_t *book)
     case 6:
         bend_count(book);
         break;
+    case 7:
+        bend_handshakes(book);
+        break;
     default:
         record_of(book, any_line(book))[SALES] = (uint32_t)draw(18);
     }
@@ -588,12 +636,18 @@ static void fill_book(uint32_t *book)
         book[i] = 4294967295;
 }
 
-void spoil_book(const uint32_t *tokens, size_t n, uint32_t *book)
+/* Word 3 of any record but a line: only in the desk's view of a bench in use may it be 1 or 2. */
+static void spoil_handshake(uint32_t *book)
 {
-    if (chance(1)) {
-        fill_book(book);
-        return;
-    }
+    uint32_t values[] = {1, 2, 3, 4, 257, 65538, 4294967295};
+    size_t records[] = {GS_DESK, any_in_use(book, CARNETS, 16), any_in_use(book, CUSTOMER_VIEWS, 16),
+                        any_in_use(book, TILLS, 8), BENCH_VIEWS + draw(8)};
+    size_t record = chance(40) ? any_in_use(book, BENCH_VIEWS, 8) : records[draw(5)];
+    record_of(book, record)[HANDSHAKE] = values[draw(sizeof values / sizeof values[0])];
+}
+
+static void spoil_word(const uint32_t *tokens, size_t n, uint32_t *book)
+{
     uint32_t values[] = {0, 1, 2, 16, 17, 31, 32, 33, 1000000, 4294967295, any_token(tokens, n), draw_word()};
     size_t records[] = {0, draw(RECORDS), any_record(book), any_record(book)}, words[] = {draw(6), draw(6), draw(36), 35};
     uint32_t *word = record_of(book, records[draw(4)]) + words[draw(4)];
@@ -607,4 +661,14 @@ void spoil_book(const uint32_t *tokens, size_t n, uint32_t *book)
     default:
         *word = values[draw(sizeof values / sizeof values[0])];
     }
+}
+
+void spoil_book(const uint32_t *tokens, size_t n, uint32_t *book)
+{
+    if (chance(1))
+        fill_book(book);
+    else if (chance(10))
+        spoil_handshake(book);
+    else
+        spoil_word(tokens, n, book);
 }

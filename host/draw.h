@@ -22,7 +22,7 @@ void draw_parties(void);
    are tokens enough. */
 void draw_tape(uint8_t *tape, size_t records, int joining);
 
-/* A tape of updates and sales alone, after which what was bought waits. */
+/* A tape of updates, stocks and sales alone, after which what was bought waits, and some benches can authenticate. */
 void draw_sales(uint8_t *tape, size_t records);
 
 /* Any entry: mostly one that is well formed, or nearly. */

@@ -18,14 +18,20 @@ open bench 1 customer 3
 update customer 3 by 5
 sell bench 1 customer 3 count 2
 sell bench 1 customer 3 count 4
+stock bench 1 with 4
+bench 1 authenticates
+desk authenticates bench 1
 clear bench 1 customer 3
 sell bench 1 customer 3 count 1
 update customer 3 by 0
 sell bench 1 customer 3 count 2
 clear bench 1 customer 3
+bench 1 authenticates
+desk authenticates bench 1
+clear bench 1 customer 3
 """
 BALANCES = "bench 1: 2\nbench 6: 0\n"
-TOLD = "step 6: refused 11\nstep 11: refused 15, token 2 is dead\n" + BALANCES
+TOLD = "step 6: refused 11\nstep 14: refused 17\nstep 17: refused 15, token 2 is dead\n" + BALANCES
 
 
 # ---- what this machine has ----

@@ -120,6 +120,49 @@ FAULTS = [
         "!money_fits(d->book, n + 1)",
     ),
     (
+        "a handshake lost: a stock that is refused takes it back",
+        "    size_t second = verdict == 15 ? first_dead(&d) : 0;\n",
+        """    size_t second = verdict == 15 ? first_dead(&d) : 0;
+    if (e.kind == STOCK)
+        d.bench_view[HANDSHAKE] = NONE;
+""",
+    ),
+    (
+        "a handshake kept: a stock doesn't take it back",
+        "(uint32_t)count;\n    d->bench_view[HANDSHAKE] = NONE;\n",
+        "(uint32_t)count;\n",
+    ),
+    (
+        "a handshake used twice: the clear of an empty line leaves it",
+        "(uint32_t)n;\n    d->bench_view[HANDSHAKE] = NONE;\n",
+        "(uint32_t)n;\n    if (n > 0)\n        d->bench_view[HANDSHAKE] = NONE;\n",
+    ),
+    (
+        "a step let pass: the desk authenticates a second time",
+        "handshake != BENCH_HAS)",
+        "handshake == NONE)",
+    ),
+    (
+        "an order of verdicts: 13 before 17",
+        "handshake != BENCH_HAS)",
+        "handshake != BENCH_HAS && d->till[COUNT] > 0 && d->bench_view[COUNT] > 0)",
+    ),
+    (
+        "an order of verdicts: 15 before 17",
+        "handshake != BOTH_HAVE)",
+        "handshake != BOTH_HAVE && first_dead(d) == CELLS)",
+    ),
+    (
+        "a limit of soundness: a handshake of 3",
+        "words[HANDSHAKE] <= BOTH_HAVE;",
+        "words[HANDSHAKE] <= BOTH_HAVE + 1;",
+    ),
+    (
+        "a clause of soundness too wide: a handshake in the desk's view of a customer",
+        "record >= BENCH_VIEWS && record < TILLS",
+        "record >= CUSTOMER_VIEWS && record < TILLS",
+    ),
+    (
         "a place that wraps: the reader far past the end",
         "return place <= bytes && bytes - place >= 8;",
         "return place + 8 <= bytes;",

@@ -6,8 +6,11 @@
 enum { RECORD = 36, RECORDS = 177, WORDS = RECORD * RECORDS, BYTES = 4 * WORDS };
 enum { CUSTOMERS = 16, BENCHES = 8, MOST_TOKENS = 4096, CELLS = 32, MOST_SALES = 16, MILLION = 1000000 };
 
-/* The words of a record. */
-enum { IN_USE, AMOUNT, COUNT, SALES, CELL };
+/* The words of a record. Word 3 counts the sales of a line; in the desk's view of a bench it is the handshake. */
+enum { IN_USE, AMOUNT, COUNT, SALES, CELL, HANDSHAKE = SALES };
+
+/* How far a handshake is: not begun, the bench has authenticated, or after it the desk has too. */
+enum { NONE, BENCH_HAS, BOTH_HAVE };
 
 /* The first record of each sort. */
 enum { DESK = 0, CARNETS = 1, CUSTOMER_VIEWS = 17, BENCH_VIEWS = 33, TILLS = 41, LINES = 49 };
@@ -81,18 +84,26 @@ static int amount_good(const uint32_t *book, size_t record)
     return may_have_one || book[at(record) + AMOUNT] == 0;
 }
 
-static int sales_good(const uint32_t *book, size_t record)
+static int sales_good(const uint32_t *line)
 {
-    uint32_t sales = book[at(record) + SALES], count = book[at(record) + COUNT];
-    if (record < LINES)
-        return sales == 0;
+    uint32_t sales = line[SALES], count = line[COUNT];
     return sales <= MOST_SALES && sales <= count && (sales == 0) == (count == 0);
+}
+
+static int word_3_good(const uint32_t *book, size_t record)
+{
+    const uint32_t *words = book + at(record);
+    if (record >= LINES)
+        return sales_good(words);
+    if (record >= BENCH_VIEWS && record < TILLS)
+        return words[HANDSHAKE] <= BOTH_HAVE;
+    return words[3] == 0;
 }
 
 static int records_good(const uint32_t *book)
 {
     for (size_t record = 0; record < RECORDS; record++)
-        if (!shape_good(book + at(record)) || !amount_good(book, record) || !sales_good(book, record))
+        if (!shape_good(book + at(record)) || !amount_good(book, record) || !word_3_good(book, record))
             return 0;
     return 1;
 }
@@ -332,10 +343,11 @@ static size_t first_dead(const struct desk *d)
     return CELLS;
 }
 
-/* The document's table from 4 on, row by row. */
+/* The documents' table from 4 on, row by row; 17 has its place behind 6. */
 static uint8_t judge_step(const struct desk *d, uint8_t kind, uint64_t n)
 {
     uint64_t held = d->customer_view[COUNT], left = d->n - d->own[AMOUNT];
+    uint32_t handshake = d->bench_view[HANDSHAKE];
     int authenticates = kind == BENCH_AUTHENTICATES || kind == DESK_AUTHENTICATES;
 
     if ((kind == JOIN_CUSTOMER && d->carnet[IN_USE]) || (kind == JOIN_BENCH && d->till[IN_USE])
@@ -345,6 +357,8 @@ static uint8_t judge_step(const struct desk *d, uint8_t kind, uint64_t n)
         return 5;
     if ((kind == SELL || kind == CLEAR) && !d->line[IN_USE])
         return 6;
+    if ((kind == DESK_AUTHENTICATES && handshake != BENCH_HAS) || (kind == CLEAR && handshake != BOTH_HAVE))
+        return 17;
     if ((kind == JOIN_CUSTOMER && n > MILLION) || (kind == STOCK && n > 32)
         || (kind == TOP_UP && !money_fits(d->book, n)))
         return 7;
@@ -402,6 +416,7 @@ static void stock(const struct desk *d, uint32_t n)
     deal_to(d, d->till, count);
     deal_to(d, d->bench_view, count);
     d->own[AMOUNT] += (uint32_t)count;
+    d->bench_view[HANDSHAKE] = NONE;
 }
 
 /* Moves what a line has in its first cells back by some cells. */
@@ -429,6 +444,13 @@ static void sell(const struct desk *d, uint32_t n)
     drop_first(d->carnet, n);
 }
 
+static void authenticate(const struct desk *d, uint32_t handshake)
+{
+    drop_first(d->till, 1);
+    drop_first(d->bench_view, 1);
+    d->bench_view[HANDSHAKE] = handshake;
+}
+
 /* Takes tokens out of a record; the others keep their order. */
 static void strike(uint32_t *record, const uint32_t *tokens, size_t n)
 {
@@ -447,6 +469,7 @@ static void clear(const struct desk *d)
     size_t n = waiting(d, tokens);
     strike(d->customer_view, tokens, n);
     d->bench_view[AMOUNT] += (uint32_t)n;
+    d->bench_view[HANDSHAKE] = NONE;
     for (size_t i = COUNT; i < RECORD; i++)
         d->line[i] = 0;
 }
@@ -476,9 +499,10 @@ static void do_step(const struct desk *d, uint8_t kind, uint32_t n)
         sell(d, n);
         break;
     case BENCH_AUTHENTICATES:
+        authenticate(d, BENCH_HAS);
+        break;
     case DESK_AUTHENTICATES:
-        drop_first(d->till, 1);
-        drop_first(d->bench_view, 1);
+        authenticate(d, BOTH_HAVE);
         break;
     case CLEAR:
         clear(d);

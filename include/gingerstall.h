@@ -35,8 +35,9 @@
 #define GS_IN_USE 0
 #define GS_AMOUNT 1
 #define GS_COUNT 2
-#define GS_SALES 3
-#define GS_CELLS 4 /* the first of them */
+#define GS_SALES 3     /* of a line */
+#define GS_HANDSHAKE 3 /* of the desk's view of a bench: 0 none, 1 the bench has authenticated, 2 then the desk too */
+#define GS_CELLS 4     /* the first of them */
 #define GS_WORD(record, word) (GS_RECORD_WORDS * (record) + (word))
 
 /* The two numbers that a step answers. */
@@ -56,10 +57,11 @@ uint8_t gs_sound(const uint32_t *tokens, size_t n, const uint32_t *book, size_t 
 /* The same of a slip book. */
 uint8_t gs_slip_sound(const uint32_t *tokens, size_t n, const uint32_t *book, size_t words);
 
-/* Does one step in a plain book, told by the five fields of its record. Answers two numbers. The low byte is its verdict,
-   0 to 15: 0 if it was granted and the book has changed accordingly, 1 if the book isn't sound over the list. The high
-   byte is the second number: with a 15 the place, counted from 0 in the line's tokens, of the first that isn't in the
-   desk's view of the customer, and 0 with every other verdict. */
+/* Does one step in a plain book, told by the five fields of its record. Answers two numbers. The low byte is its verdict:
+   0 if it was granted and the book has changed accordingly, 1 if the book isn't sound over the list, else one of 2 to 15
+   and 17. Where several fit it is the one that stands first in the table of docs/RULES.md, section 5, where 17, handshake
+   missing, stands between 6 and 7. The high byte is the second number: with a 15 the place, counted from 0 in the line's
+   tokens, of the first that isn't in the desk's view of the customer, and 0 with every other verdict. */
 uint16_t gs_step(const uint32_t *tokens, size_t n, uint32_t *book, size_t words, uint8_t kind, uint8_t bench,
                  uint8_t customer, uint8_t zero, uint32_t amount);
 

@@ -32,6 +32,9 @@ VERDICTS = {
         "Let it join, then repeat the step."),
     6: ("the bench has no line for this customer",
         "Open it, then repeat the step."),
+    17: ("the handshake is missing: a clear comes after the bench's "
+         "authentication and then the desk's, and the desk's after the bench's",
+         "Let the bench authenticate, then the desk, and then clear, before a stock of the bench, another clear of it or another authentication by it."),
     7: ("a budget above 1,000,000 on joining, a stock above 32, or a top up that would bring the hall's money above "
         "1,000,000 for each joined customer",
         "Ask for less. Another customer who joins with less than 1,000,000 leaves room for a top up."),

@@ -82,9 +82,9 @@ module _ (h : Hall) (ts b : List ℕ) (e : Entry) (ok : SlipSound h ts b) where
         opens = rw (before 0 (omega arith), before (number h (BenchView (e .bench))) (omega arith));
       }
 
-  pub authenticates : e .bench < h .benches → SlipFine h ts b (dealt b) (authenticating h b e) (authenticating h o e)
+  pub authenticates : (s : ℕ) → e .bench < h .benches → SlipFine h ts b (dealt b) (authenticating h b e s) (authenticating h o e s)
   unfolding authenticating
-  authenticates m =
+  authenticates s m =
       record {
         deals = omega arith;
         desk = refl;
@@ -221,8 +221,8 @@ module _ (h : Hall) (ts b : List ℕ) (e : Entry) (v : verdict slip h ts b e ≡
         update = λ q. (_, updates h ts b e ok (customer 4 q refl) (update-left slip h ts b e v q));
         stock = λ q. (_, stocks h ts b e ok (bench 5 q refl));
         sell = λ q. let s = sale q in (_, sells h ts b e ok (s .0) (s .1) (sell-enough slip h ts b e v q) (sell-room slip h ts b e v q) (s .2));
-        bench-authenticates = λ q. (_, authenticates h ts b e ok (bench 7 q refl));
-        desk-authenticates = λ q. (_, authenticates h ts b e ok (bench 8 q refl));
+        bench-authenticates = λ q. (_, authenticates h ts b e ok 1 (bench 7 q refl));
+        desk-authenticates = λ q. (_, authenticates h ts b e ok 2 (bench 8 q refl));
         clear = λ q. (_, clears h ts b e ok (bench 9 q refl) (customer 9 q refl));
         top-up = λ q. (_, tops-up h ts b e ok (customer 10 q refl));
       }

@@ -9,7 +9,7 @@ use Rattle.rules.specs.declared.Entry.{Entry}
 use Rattle.rules.specs.Lists.{ℕ, _+_, _*_, Bool, true, false, not, _&&_, _||_, ltb, eqb, List, _∷_, length, drop, getD, occ, sumOf}
 use Rattle.rules.specs.Hall.{mostHeld, mostBudget, Carnet, View, BenchView, Till, Line, number, records, views, customerViews}
 use Rattle.rules.specs.Answers.{Rule, _⇐_, first}
-use Rattle.rules.specs.Records.{inUse, amount, count, sales, cells, held, recordAt}
+use Rattle.rules.specs.Records.{inUse, amount, count, sales, handshake, cells, held, recordAt}
 use Rattle.rules.specs.Tape.{BenchAuthenticates, DeskAuthenticates, Clear, kindOf, is, usesBench, usesCustomer, wellFormed, inHall, entryRules}
 use Rattle.rules.specs.Sound.{total, mostTotal}
 use Rattle.rules.specs.Form.{plain}
@@ -19,7 +19,7 @@ use Rattle.rules.specs.Verdicts.{authenticates, waiting, deadAt, table, verdict
 use Rattle.laws.proofs.Reflect.{Book, sound-facts}
 use Rattle.laws.proofs.Books.{facts-at, dealt-few}
 use Rattle.laws.proofs.Places.{inside-below}
-use Rattle.laws.proofs.Opened.{open-same, open-line, open-word, opened-use, opened-amount, opened-count, opened-sales}
+use Rattle.laws.proofs.Opened.{open-same, open-line, open-word, opened-use, opened-amount, opened-count, opened-sales, opened-handshake}
 use Rattle.laws.proofs.ReflectSlips.{SlipSound, slip-sound-facts, slip-line-facts}
 use Rattle.rules.proofs.Tests.{same}
 use Rattle.rules.proofs.Granted.{inside-hall-bench, inside-hall-customer}
@@ -59,6 +59,9 @@ module _ (h : Hall) (ts b : List ℕ) (ok : SlipSound h ts b) where
 
   pub word-sales : (k : ℕ) → sales (recordAt k o) ≡ sales (recordAt k b)
   word-sales = open-word h ts b (ok .long) sales (opened-sales ts)
+
+  pub word-handshake : (k : ℕ) → handshake (recordAt k o) ≡ handshake (recordAt k b)
+  word-handshake = open-word h ts b (ok .long) handshake (opened-handshake ts)
 
   -- so its money is the opened book's, and what may be there
   pub same-total : total h (λ k. recordAt k o) ≡ total h (λ k. recordAt k b)
@@ -138,6 +141,7 @@ module _ (h : Hall) (ts b : List ℕ) (e : Entry) (good : slipSound h ts b ≡ t
         word-sales h ts b ok (number h (Line (e .bench) (e .customer))),
         word-count h ts b ok (number h (Till (e .bench))),
         word-count h ts b ok (number h (BenchView (e .bench))),
+        word-handshake h ts b ok (number h (BenchView (e .bench))),
         same-total h ts b ok,
         same-most h ts b ok,
         same-first p,

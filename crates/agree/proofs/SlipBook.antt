@@ -1,9 +1,10 @@
--- The slip book, too, is kept sound; no tenant is touched by another's step or paid for another's sale; nothing sold changes nothing.
+-- The slip book, too, is kept sound; no tenant is touched by another's step or paid for another's sale; a clear follows on both
+-- authentications; a sale and a top up of 0 change nothing, a clear of an empty line the handshake alone.
 use mathlib.Core.Path.{_≡_, refl, sym, ap, _∙_, subst}
 use native.Mathlib.Omega.{arith}
 use Prim.Native.Nat.{_<_}
 use Rattle.rules.specs.Lists.{ℕ, _*_, List, take}
-use Rattle.rules.specs.Hall.{Carnet, View, Line, number, records}
+use Rattle.rules.specs.Hall.{Carnet, View, BenchView, Till, Line, number, records}
 use Rattle.rules.specs.Records.{words, inUse, amount, sales, cells, held, filled, made, recordAt}
 use Rattle.rules.specs.Slips.{openSlips, slipTokens, slipPairs, slipOf, openBook, slip}
 use Rattle.rules.specs.Steps.{dealt}
@@ -18,8 +19,10 @@ use Rattle.keeps.proofs.Keeps.{Kept, kept}
 use Rattle.keeps.proofs.Nothing.{Tidies, Still, still, made-as-it-stands}
 use Rattle.keeps.proofs.Origin.{Lines}
 use Rattle.keeps.proofs.Tenants.{Tenants, tenants}
+use Rattle.keeps.proofs.BenchViews.{Blank, Strangers, plain-strangers}
+use Rattle.keeps.proofs.Handshake.{Handshakes, handshakes}
 use Rattle.laws.proofs.SlipLines.{tokens-length}
-use Rattle.agree.proofs.SameVerdict.{opened-book, word-amount, word-count, word-sales, dealt-small, count-small}
+use Rattle.agree.proofs.SameVerdict.{opened-book, word-use, word-amount, word-count, word-sales, dealt-small, count-small}
 use Rattle.agree.proofs.SameStep.{slip-sold, slip-regular}
 use Rattle.agree.proofs.SameRun.{slip-keeps}
 
@@ -41,6 +44,15 @@ slip-lines =
 
 pub slip-tenants : Tenants slip
 slip-tenants = tenants slip slip-regular slip-lines
+
+pub slip-strangers : Strangers slip
+slip-strangers h ts b g m i out =
+    let ok : SlipSound h ts b = slip-sound-facts h ts b g in
+    subst Blank (open-same h ts b (ok .long) (number h (BenchView m)) (omega arith))
+    (plain-strangers h ts (openBook h ts b) (ok .opens) m i (λ u. out (sym (word-use h ts b ok (number h (Till m))) ∙ u)))
+
+pub slip-handshakes : Handshakes slip
+slip-handshakes = handshakes slip slip-regular slip-strangers
 
 -- all records but the lines are those of the opened book
 slip-tidies : Tidies slip
@@ -71,4 +83,4 @@ slip-tidies h ts b g =
     }
 
 pub slip-still : Still slip
-slip-still = still slip slip-tidies
+slip-still = still slip slip-regular slip-tidies

@@ -6,6 +6,7 @@ use Rattle.book.proofs.in_use.Reads as in-use-call
 use Rattle.book.proofs.amount.Reads as amount-call
 use Rattle.book.proofs.count.Reads as count-call
 use Rattle.book.proofs.sales.Reads as sales-call
+use Rattle.book.proofs.handshake.Reads as handshake-call
 use Rattle.book.proofs.cells.Reads as cells-call
 use Rattle.book.proofs.tokens_of.Reads as tokens-of-call
 use Rattle.book.proofs.word_of.Reads as word-of-call
@@ -32,6 +33,9 @@ count-determined κs a = determined _ _ _ (λ z e p. p)
 
 sales-determined : (κs : _) (a : _) → Determined (sales-call.Learnt κs a) (λ z e. z)
 sales-determined κs a = determined _ _ _ (λ z e p. p)
+
+handshake-determined : (κs : _) (a : _) → Determined (handshake-call.Learnt κs a) (λ z e. z)
+handshake-determined κs a = determined _ _ _ (λ z e p. p)
 
 cells-determined : (κs : _) (a : _) → Determined (cells-call.Learnt κs a) (λ z e. z .now)
 cells-determined κs a = determined _ _ _ (λ z e p. p)

@@ -3,7 +3,7 @@ ghost use mathlib.Core.Path.{_≡_};
 ghost use Prim.Native.Nat.{_+_, _*_, _≤_, _<_};
 ghost use lib.ListN.{length, getD};
 ghost use Rattle.rules.specs.Hall.{Carnet, View, BenchView, Till, Line, number, records};
-ghost use Rattle.rules.specs.Records.{words, inUse, amount, count, sales, cells, held, recordAt};
+ghost use Rattle.rules.specs.Records.{words, inUse, amount, count, sales, handshake, cells, held, recordAt};
 
 pub mod forms;
 pub mod writing;
@@ -46,6 +46,14 @@ pub fn count(rec: &[u32]) -> u32
 pub fn sales(rec: &[u32]) -> u32
     requires { ⌜ 4 ≤ length (now rec) ⌝ }
     ensures { λ r. ⌜ r ≡ sales (now (rec .entry)) ⌝ }
+{
+    rec[3]
+}
+
+// The same word, in the desk's view of a bench.
+pub fn handshake(rec: &[u32]) -> u32
+    requires { ⌜ 4 ≤ length (now rec) ⌝ }
+    ensures { λ r. ⌜ r ≡ handshake (now (rec .entry)) ⌝ }
 {
     rec[3]
 }

@@ -21,14 +21,14 @@ pub fn wipe(part: &mut [u32])
     }
 }
 
-fn write_head(rec: &mut [u32], used: u32, amount: u32, count: u32, sales: u32)
+fn write_head(rec: &mut [u32], used: u32, amount: u32, count: u32, word3: u32)
     requires { ⌜ 4 ≤ length (now rec) ⌝ }
-    ensures { λ _. ⌜ now (rec .exit) ≡ used ∷ amount ∷ count ∷ sales ∷ drop 4 (now (rec .entry)) ⌝ }
+    ensures { λ _. ⌜ now (rec .exit) ≡ used ∷ amount ∷ count ∷ word3 ∷ drop 4 (now (rec .entry)) ⌝ }
 {
     rec[0] = used;
     rec[1] = amount;
     rec[2] = count;
-    rec[3] = sales;
+    rec[3] = word3;
 }
 
 // The cells that are filled, and zeros over what stood behind them.
@@ -42,11 +42,11 @@ fn write_cells(cells: &mut [u32], new: &[u32])
 }
 
 // The one record writer.
-pub fn write_record(rec: &mut [u32], used: u32, amount: u32, count: u32, sales: u32, cells: &[u32])
+pub fn write_record(rec: &mut [u32], used: u32, amount: u32, count: u32, word3: u32, cells: &[u32])
     requires { ⌜ (length (now rec) ≡ words) × (length (now cells) ≤ mostHeld) ⌝ }
-    ensures { λ _. ⌜ now (rec .exit) ≡ filled used amount count sales (now (cells .entry)) ⌝ }
+    ensures { λ _. ⌜ now (rec .exit) ≡ filled used amount count word3 (now (cells .entry)) ⌝ }
 {
-    write_head(rec, used, amount, count, sales);
+    write_head(rec, used, amount, count, word3);
     write_cells(&mut rec[4..], cells);
 }
 
@@ -57,33 +57,33 @@ pub fn put_record(
     used: u32,
     amount: u32,
     count: u32,
-    sales: u32,
+    word3: u32,
     cells: &[u32],
 )
     requires { ⌜ (words * k + words ≤ length (now book)) × (length (now cells) ≤ mostHeld) ⌝ }
-    ensures { λ _. ⌜ now (book .exit) ≡ put k (filled used amount count sales (now (cells .entry))) (now (book .entry)) ⌝ }
+    ensures { λ _. ⌜ now (book .exit) ≡ put k (filled used amount count word3 (now (cells .entry))) (now (book .entry)) ⌝ }
 {
     let from = 36 * k;
     let to = from + 36;
-    write_record(&mut book[from..to], used, amount, count, sales, cells);
+    write_record(&mut book[from..to], used, amount, count, word3, cells);
 }
 
 // Record k, in use and holding the tokens.
-pub fn put_made(book: &mut [u32], k: usize, amount: u32, sales: u32, tokens: &[u32])
+pub fn put_made(book: &mut [u32], k: usize, amount: u32, word3: u32, tokens: &[u32])
     requires { ⌜ (words * k + words ≤ length (now book)) × (length (now tokens) ≤ mostHeld) ⌝ }
-    ensures { λ _. ⌜ now (book .exit) ≡ put k (made amount sales (now (tokens .entry))) (now (book .entry)) ⌝ }
+    ensures { λ _. ⌜ now (book .exit) ≡ put k (made amount word3 (now (tokens .entry))) (now (book .entry)) ⌝ }
 {
     let n = tokens.len() as u32;
-    put_record(book, k, 1, amount, n, sales, tokens);
+    put_record(book, k, 1, amount, n, word3, tokens);
 }
 
 // Record k, in use, from all of its 32 cells at once: nothing is left behind them to wipe, so that a caller who has laid
 // its tokens over a zeroed scratch record saves the copy of an unknown length and the wiping.
-pub fn put_whole(book: &mut [u32], k: usize, amount: u32, count: u32, sales: u32, cells: &[u32])
+pub fn put_whole(book: &mut [u32], k: usize, amount: u32, count: u32, word3: u32, cells: &[u32])
     requires { ⌜ (words * k + words ≤ length (now book)) × (length (now cells) ≡ mostHeld) ⌝ }
-    ensures { λ _. ⌜ now (book .exit) ≡ put k (1 ∷ amount ∷ count ∷ sales ∷ now (cells .entry)) (now (book .entry)) ⌝ }
+    ensures { λ _. ⌜ now (book .exit) ≡ put k (1 ∷ amount ∷ count ∷ word3 ∷ now (cells .entry)) (now (book .entry)) ⌝ }
 {
-    put_record(book, k, 1, amount, count, sales, cells);
+    put_record(book, k, 1, amount, count, word3, cells);
 }
 
 // Word w of record k alone, where it stands.

@@ -7,8 +7,8 @@ use Rattle.rules.specs.Lists.{ℕ, _+_, _*_, _-_, List, length, take, drop}
 use Rattle.rules.specs.Hall.{mostHeld}
 use Rattle.rules.specs.Records.{words, made, withWord, recordAt, put}
 use Rattle.rules.specs.Steps.{dealt, fresh}
-use Rattle.laws.proofs.Blocks.{block-other}
-use Rattle.laws.proofs.Made.{made-long}
+use Rattle.laws.proofs.Blocks.{block-same, block-again, block-other, block-long}
+use Rattle.laws.proofs.Made.{made-long, with-long}
 
 -- a record written over a book that is known, made from what is known
 pub written : (k a a₁ s : ℕ) (xs xs₁ b b₁ new : List ℕ) → new ≡ put k (made a₁ s xs₁) b₁ → a₁ ≡ a → xs₁ ≡ xs → b₁ ≡ b
@@ -19,6 +19,19 @@ written k a a₁ s xs xs₁ b b₁ new e f g h = cc
 pub changed : (k w x x₁ : ℕ) (r b b₁ new : List ℕ) → new ≡ put k (withWord w x₁ (recordAt k b₁)) b₁ → x₁ ≡ x → recordAt k b₁ ≡ r → b₁ ≡ b
     → new ≡ put k (withWord w x r) b
 changed k w x x₁ r b b₁ new e f g h = cc
+
+-- and then another word of it
+pub changed-twice : (k w x x₁ v y : ℕ) (r b b₁ b₂ new : List ℕ) → new ≡ put k (withWord v y (recordAt k b₂)) b₂ → b₂ ≡ put k (withWord w x₁ (recordAt k b₁)) b₁
+    → words * k + words ≤ length b₁ → x₁ ≡ x → recordAt k b₁ ≡ r → b₁ ≡ b → new ≡ put k (withWord v y (withWord w x r)) b
+changed-twice k w x x₁ v y r b b₁ b₂ new e e₂ fits f g h =
+    let r₁ : List ℕ = withWord w x₁ (recordAt k b₁) in
+    let long : length r₁ ≡ words = with-long w x₁ (recordAt k b₁) ∙ block-long words k b₁ fits in
+    let both : new ≡ put k (withWord v y r₁) b₁ =
+    e
+    ∙ ap (λ (z : List ℕ). put k (withWord v y (recordAt k z)) z) e₂
+    ∙ ap (λ (z : List ℕ). put k (withWord v y z) (put k r₁ b₁)) (block-same words k r₁ b₁ long fits)
+    ∙ block-again words k r₁ b₁ long fits (withWord v y r₁) in
+    cc
 
 -- record j, after a record before it, or behind it, was written
 module _ (k j a s : ℕ) (xs b new : List ℕ) (e : new ≡ put k (made a s xs) b) (fits : words * k + words ≤ length b) (l : length xs ≤ mostHeld) where

@@ -8,8 +8,10 @@ use Rattle.checks.proofs.update.Reads as update-call
 use Rattle.checks.proofs.stock.Reads as stock-call
 use Rattle.checks.proofs.line.Reads as line-call
 use Rattle.checks.proofs.sale.Reads as sale-call
+use Rattle.checks.proofs.shaken.Reads as shaken-call
 use Rattle.checks.proofs.clear.Reads as clear-call
-use Rattle.checks.proofs.authenticate.Reads as authenticate-call
+use Rattle.checks.proofs.bench_authenticates.Reads as bench-authenticates-call
+use Rattle.checks.proofs.desk_authenticates.Reads as desk-authenticates-call
 use Rattle.checks.proofs.top_up.Reads as top-up-call
 
 join-customer-determined : (κs : _) (a : _) → Determined (join-customer-call.Learnt κs a) (λ z e. z)
@@ -33,11 +35,17 @@ line-determined κs a = determined _ _ _ (λ z e p. p)
 sale-determined : (κs : _) (a : _) → Determined (sale-call.Learnt κs a) (λ z e. z)
 sale-determined κs a = determined _ _ _ (λ z e p. p)
 
+shaken-determined : (κs : _) (a : _) → Determined (shaken-call.Learnt κs a) (λ z e. z)
+shaken-determined κs a = determined _ _ _ (λ z e p. p)
+
 clear-determined : (κs : _) (a : _) → Determined (clear-call.Learnt κs a) (λ z e. z)
 clear-determined κs a = determined _ _ _ (λ z e p. p)
 
-authenticate-determined : (κs : _) (a : _) → Determined (authenticate-call.Learnt κs a) (λ z e. z)
-authenticate-determined κs a = determined _ _ _ (λ z e p. p)
+bench-authenticates-determined : (κs : _) (a : _) → Determined (bench-authenticates-call.Learnt κs a) (λ z e. z)
+bench-authenticates-determined κs a = determined _ _ _ (λ z e p. p)
+
+desk-authenticates-determined : (κs : _) (a : _) → Determined (desk-authenticates-call.Learnt κs a) (λ z e. z)
+desk-authenticates-determined κs a = determined _ _ _ (λ z e p. p)
 
 top-up-determined : (κs : _) (a : _) → Determined (top-up-call.Learnt κs a) (λ z e. z)
 top-up-determined κs a = determined _ _ _ (λ z e p. p)

@@ -2,7 +2,7 @@
 // words that the kind's tests read, and takes any words.
 ghost use mathlib.Core.Path.{_≡_};
 ghost use Rattle.rules.specs.Answers.{first};
-ghost use Rattle.kinds.specs.Chains.{joinCustomerRules, joinBenchRules, openRules, updateRules, stockRules, lineRules, saleRules, clearRules, authenticateRules, topUpRules};
+ghost use Rattle.kinds.specs.Chains.{joinCustomerRules, joinBenchRules, openRules, updateRules, stockRules, lineRules, saleRules, shakenRules, clearRules, compareRules, benchRules, deskRules, topUpRules};
 
 pub fn join_customer(carnet: u32, budget: u32) -> u8
     ensures { λ r. ⌜ r ≡ first (joinCustomerRules carnet budget) ⌝ }
@@ -106,6 +106,15 @@ pub fn sale(carnet: u32, line: u32, sales: u32, n: u32) -> u8
     0
 }
 
+pub fn shaken(handshake: u32) -> u8
+    ensures { λ r. ⌜ r ≡ first (shakenRules handshake) ⌝ }
+{
+    if handshake != 2 {
+        return 17;
+    }
+    0
+}
+
 pub fn clear(dead: usize, n: usize) -> u8
     ensures { λ r. ⌜ r ≡ first (clearRules dead n) ⌝ }
 {
@@ -115,12 +124,10 @@ pub fn clear(dead: usize, n: usize) -> u8
     0
 }
 
-pub fn authenticate(used: u32, till: u32, view: u32, mine: u32, theirs: u32) -> u8
-    ensures { λ r. ⌜ r ≡ first (authenticateRules used till view mine theirs) ⌝ }
+// Either authentication, so far as both are judged alike.
+fn compare(till: u32, view: u32, mine: u32, theirs: u32) -> u8
+    ensures { λ r. ⌜ r ≡ first (compareRules till view mine theirs) ⌝ }
 {
-    if used != 1 {
-        return 5;
-    }
     if till == 0 {
         return 13;
     }
@@ -131,6 +138,34 @@ pub fn authenticate(used: u32, till: u32, view: u32, mine: u32, theirs: u32) -> 
         return 14;
     }
     0
+}
+
+pub fn bench_authenticates(used: u32, till: u32, view: u32, mine: u32, theirs: u32) -> u8
+    ensures { λ r. ⌜ r ≡ first (benchRules used till view mine theirs) ⌝ }
+{
+    if used != 1 {
+        return 5;
+    }
+    compare(till, view, mine, theirs)
+}
+
+pub fn desk_authenticates(
+    used: u32,
+    handshake: u32,
+    till: u32,
+    view: u32,
+    mine: u32,
+    theirs: u32,
+) -> u8
+    ensures { λ r. ⌜ r ≡ first (deskRules used handshake till view mine theirs) ⌝ }
+{
+    if used != 1 {
+        return 5;
+    }
+    if handshake != 1 {
+        return 17;
+    }
+    compare(till, view, mine, theirs)
 }
 
 // Any words may be told, so `total + n`, which may not fit, is never formed.

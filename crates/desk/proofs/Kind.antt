@@ -1,12 +1,11 @@
 -- From a book that is known to be sound to what each kind's function asks for, and back from its answer to the step's.
 use mathlib.Core.Path.{_≡_, refl, sym, ap, _∙_}
-use mathlib.Core.Logic.{_⊎_, inl, inr, ⊎-elim}
 use borrow.Author.Tests.{not-false}
 use Rattle.rules.specs.declared.Hall.{Hall}
 use Rattle.rules.specs.declared.Entry.{Entry}
-use Rattle.rules.specs.Lists.{ℕ, true, List, occ}
+use Rattle.rules.specs.Lists.{ℕ, List}
 use Rattle.rules.specs.Answers.{first, Answer, Gives}
-use Rattle.rules.specs.Tape.{JoinCustomer, JoinBench, OpenLine, Update, Stock, Sell, BenchAuthenticates, DeskAuthenticates, Clear, TopUp, kindOf, usesBench, entryRules}
+use Rattle.rules.specs.Tape.{JoinCustomer, JoinBench, OpenLine, Update, Stock, Sell, BenchAuthenticates, DeskAuthenticates, Clear, TopUp, kindOf, entryRules}
 use Rattle.rules.specs.Form.{Form}
 use Rattle.rules.specs.declared.Reply.{Reply}
 use Rattle.rules.specs.Verdicts.{Stepped, StepGives, step}
@@ -15,8 +14,7 @@ use Rattle.rules.proofs.ByKind.{IsKind, by-kind}
 use Rattle.rules.proofs.Granted.{formed-kind}
 use Rattle.rules.proofs.Dead.{second-other}
 use Rattle.kinds.proofs.Ready.{Works}
-use Rattle.kinds.specs.Kinds.{Placed, Passed, Listed, authenticate, numbered}
-use Rattle.kinds.proofs.Table.{step-bench-authenticates, step-desk-authenticates}
+use Rattle.kinds.specs.Kinds.{Placed, Passed, Listed, numbered}
 use Rattle.steps.specs.Replies.{alone}
 use Rattle.desk.specs.Known.{Known}
 
@@ -34,7 +32,7 @@ module _ (f : Form) (h : Hall) (ts b : List ℕ) (e : Entry) {a : Answer} (is : 
         cells = g .cells ∙ ap (λ (s : Stepped). s .cells) (sym is);
       }
 
--- no kind but the two that authenticate, which one function serves
+-- no kind but the last that is asked for
 pub record Other (k : ℕ) : Type 0 where
   pub join-customer : k ≡ kindOf JoinCustomer → ⊥
   pub join-bench : k ≡ kindOf JoinBench → ⊥
@@ -42,15 +40,13 @@ pub record Other (k : ℕ) : Type 0 where
   pub update : k ≡ kindOf Update → ⊥
   pub stock : k ≡ kindOf Stock → ⊥
   pub sell : k ≡ kindOf Sell → ⊥
+  pub bench-authenticates : k ≡ kindOf BenchAuthenticates → ⊥
+  pub desk-authenticates : k ≡ kindOf DeskAuthenticates → ⊥
   pub clear : k ≡ kindOf Clear → ⊥
-  pub top-up : k ≡ kindOf TopUp → ⊥
 
-abbrev Authenticates : ℕ → Type 0
-Authenticates k = (k ≡ kindOf BenchAuthenticates) ⊎ (k ≡ kindOf DeskAuthenticates)
-
-other-authenticates : (k : ℕ) → IsKind k → Other k → Authenticates k
-other-authenticates =
-    by-kind (λ (k : ℕ). Other k → Authenticates k)
+other-tops-up : (k : ℕ) → IsKind k → Other k → k ≡ kindOf TopUp
+other-tops-up =
+    by-kind (λ (k : ℕ). Other k → k ≡ kindOf TopUp)
     record {
       join-customer = λ o. absurd (o .join-customer refl);
       join-bench = λ o. absurd (o .join-bench refl);
@@ -58,10 +54,10 @@ other-authenticates =
       update = λ o. absurd (o .update refl);
       stock = λ o. absurd (o .stock refl);
       sell = λ o. absurd (o .sell refl);
-      bench-authenticates = λ o. inl refl;
-      desk-authenticates = λ o. inr refl;
+      bench-authenticates = λ o. absurd (o .bench-authenticates refl);
+      desk-authenticates = λ o. absurd (o .desk-authenticates refl);
       clear = λ o. absurd (o .clear refl);
-      top-up = λ o. absurd (o .top-up refl);
+      top-up = λ o. refl;
     }
 
 module _ (f : Form) (h : Hall) (ts b : List ℕ) (e : Entry) where
@@ -76,16 +72,6 @@ module _ (f : Form) (h : Hall) (ts b : List ℕ) (e : Entry) where
     pub listed : Listed ts b
     listed = let r = w .ready h ts b (k .good) in record { short = r .list; dealt-few = r .dealt-few }
 
-    kind : IsKind (e .kind)
+    pub tops-up : Other (e .kind) → e .kind ≡ kindOf TopUp
     unfolding entryRules
-    kind = formed-kind e (not-false _ (rules-passed (entryRules h e) refl formed 2))
-
-    pub asks-bench : Other (e .kind) → usesBench (e .kind) ≡ true
-    unfolding occ
-    asks-bench o =
-        ⊎-elim (λ (q : e .kind ≡ kindOf BenchAuthenticates). ap usesBench q) (λ (q : e .kind ≡ kindOf DeskAuthenticates). ap usesBench q)
-        (other-authenticates (e .kind) kind o)
-
-    pub step-authenticates : Other (e .kind) → step f h ts b e ≡ numbered f h ts b e (authenticate h b e)
-    step-authenticates o =
-        ⊎-elim (step-bench-authenticates f h ts b e passed) (step-desk-authenticates f h ts b e passed) (other-authenticates (e .kind) kind o)
+    tops-up = other-tops-up (e .kind) (formed-kind e (not-false _ (rules-passed (entryRules h e) refl formed 2)))

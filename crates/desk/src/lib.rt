@@ -16,6 +16,7 @@ use rules::Entry;
 use rules::Hall;
 use rules::Reply;
 use steps::alone;
+use steps::handshake;
 use steps::sales;
 
 pub fn is_good(form: Form, h: Hall, tokens: &[u32], book: &[u32]) -> bool
@@ -53,10 +54,13 @@ fn step_other(form: Form, h: Hall, tokens: &[u32], book: &mut [u32], e: Entry) -
     if e.kind == 6 {
         return sales::sell(form, h, tokens, book, e);
     }
-    if e.kind == 10 {
-        return steps::top_up(h, book, e);
+    if e.kind == 7 {
+        return handshake::bench_authenticates(h, book, e);
     }
-    steps::authenticate(h, book, e)
+    if e.kind == 8 {
+        return handshake::desk_authenticates(h, book, e);
+    }
+    steps::top_up(h, book, e)
 }
 
 // A clear has one, where it meets a dead token.

@@ -6,21 +6,21 @@ use native.Mathlib.Omega.{arith}
 use lib.Seq.{drop-append-seam}
 use borrow.Author.Tests.{le-leb}
 use Rattle.rules.specs.declared.Hall.{Hall}
-use Rattle.rules.specs.Lists.{ℕ, _+_, _*_, _-_, min, true, List, [], _∷_, length, take, occ, allDifferent, allZero, sumOf}
+use Rattle.rules.specs.Lists.{ℕ, _+_, _*_, _-_, min, true, leb, List, length, take, occ, allDifferent, allZero, sumOf}
 use Rattle.rules.specs.Hall.{mostHeld, mostSales, mostBudget, Place, Desk, Carnet, View, BenchView, Till, Line, number, spendable, views, customerViews}
-use Rattle.rules.specs.Records.{inUse, amount, count, sales, held, filled, made, withAmount, recordAt}
+use Rattle.rules.specs.Records.{inUse, amount, count, sales, handshake, held, filled, made, withWord, withAmount, withHandshake, recordAt}
 use Rattle.rules.specs.Sound.{shaped, deskGood, bare, placeGood, recordGood, sound, total}
-use Rattle.rules.specs.Steps.{dealt, fresh, Change, _≔_, putAll}
+use Rattle.rules.specs.Steps.{dealt, fresh, Change, putAll}
 use Rattle.rules.proofs.Tests.{below, parts, true-and}
 use Rattle.laws.proofs.Sums.{sum-none}
 use Rattle.laws.proofs.Zeros.{zeros-zero}
-use Rattle.laws.proofs.Made.{made-amount, made-count, made-sales, made-held, with-rest, amount-use, amount-is, amount-count, amount-sales, amount-held}
+use Rattle.laws.proofs.Made.{made-amount, made-count, made-sales, made-handshake, made-held, with-long, with-here, with-other, with-rest, with-use, with-count, with-held, amount-use, amount-is, amount-sales}
 use Rattle.laws.proofs.Reflect.{Parties, Book, facts-sound}
-use Rattle.laws.proofs.Asked.{record-shaped, record-dealt, record-place, record-test, Shaped, shaped-facts, place-desk, place-carnet, place-view, place-till, place-line, line-test}
+use Rattle.laws.proofs.Asked.{record-shaped, record-dealt, record-place, record-test, Shaped, shaped-facts, place-desk, place-carnet, place-view, place-bench, place-till, place-line, line-test}
 use Rattle.laws.proofs.Books.{Known, nowhere, fresh-once, record-more}
-use Rattle.laws.proofs.Places.{Inside, spends, sees, seesCustomer, spends-group, sees-group, seesCustomer-group, Same, Differ, apart-or-same}
+use Rattle.laws.proofs.Places.{Inside, spends, sees, seesCustomer, spends-group, sees-group, seesCustomer-group}
 use Rattle.rules.proofs.Named.{Each}
-use Rattle.laws.proofs.Changes.{at, Fit, apart, lookup, loss, gain, all-long, all-at, all-each, all-sum}
+use Rattle.laws.proofs.Changes.{at, Fit, apart, lookup, lookup-each, loss, gain, all-long, all-at, all-each, all-sum}
 
 -- ---- a good new record, by its place, with d tokens dealt
 abbrev pub New : Hall → List ℕ → ℕ → Place → List ℕ → Type 0
@@ -42,9 +42,9 @@ module _ (h : Hall) (ts : List ℕ) (d : ℕ) (xs : List ℕ) (short : length xs
   unfolding made filled sales
   new-view c a i = new _ a 0 (place-view h ts _ (made a 0 xs) (omega arith) (omega arith))
 
-  pub new-bench : (m a : ℕ) → m < h .benches → New h ts d (BenchView m) (made a 0 xs)
-  unfolding made filled sales
-  new-bench m a i = new _ a 0 (place-view h ts _ (made a 0 xs) (omega arith) (omega arith))
+  pub new-bench : (m a s : ℕ) → m < h .benches → s ≤ 2 → New h ts d (BenchView m) (made a s xs)
+  new-bench m a s i few =
+      new _ a s (place-bench h ts _ (made a s xs) (omega arith) (omega arith) ∙ rw (made-handshake a s xs) (le-leb s 2 few))
 
   pub new-till : (m : ℕ) → m < h .benches → allDifferent xs ≡ true → New h ts d (Till m) (made 0 0 xs)
   unfolding bare made filled amount sales
@@ -62,20 +62,35 @@ module _ (h : Hall) (ts : List ℕ) (d : ℕ) (xs : List ℕ) (short : length xs
         both = rw (made-sales 0 s xs, made-count 0 s xs) both;
       })
 
--- a good record in use stays good with another amount: a view with any, the desk's own with one that the list has
+-- a good record in use with another word 1 or 3: its place alone decides whether it stays good
+module _ (h : Hall) (ts : List ℕ) (d k w x : ℕ) (r : List ℕ) (not-use : 0 ≡ w → ⊥) (not-count : 2 ≡ w → ⊥) (head : w < 4) where
+  other-word : inUse r ≡ 1 → recordGood h ts d k r ≡ true → placeGood h ts k (withWord w x r) ≡ true → recordGood h ts d k (withWord w x r) ≡ true
+  unfolding shaped
+  other-word there good p =
+      let s : Shaped r = shaped-facts r (record-shaped h ts d k r good) in
+      record-test h ts d k (withWord w x r)
+      (rw (with-use w x r not-use, there, with-count w x r not-count, with-rest w x r 4 head) (true-and _ _ (le-leb _ _ (s .short)) (s .past)))
+      (rw (with-held w x r head not-count) (record-dealt h ts d k r good)) p
+
+-- another amount: a view takes any, the desk's own record one that the list has; and a bench's view takes another handshake
 module _ (h : Hall) (ts : List ℕ) (d k a : ℕ) (r : List ℕ) (there : inUse r ≡ 1) (good : recordGood h ts d k r ≡ true) where
   other-amount : placeGood h ts k (withAmount a r) ≡ true → recordGood h ts d k (withAmount a r) ≡ true
-  unfolding shaped
-  other-amount p =
-      let s : Shaped r = shaped-facts r (record-shaped h ts d k r good) in
-      record-test h ts d k (withAmount a r)
-      (rw (amount-use a r, there, amount-count a r, with-rest 1 a r 4 (omega arith)) (true-and _ _ (le-leb _ _ (s .short)) (s .past)))
-      (rw (amount-held a r) (record-dealt h ts d k r good)) p
+  other-amount = other-word h ts d k 1 a r (λ q. omega arith) (λ q. omega arith) (omega arith) there good
 
-  pub view-amount : number h (View 0) ≤ k → k < number h (Till 0) → recordGood h ts d k (withAmount a r) ≡ true
+  pub view-amount : number h (View 0) ≤ k → k < number h (BenchView 0) → recordGood h ts d k (withAmount a r) ≡ true
   view-amount l u =
       other-amount
       (place-view h ts k (withAmount a r) l u ∙ rw (amount-sales a r) (sym (place-view h ts k r l u) ∙ record-place h ts d k r good))
+
+  pub bench-paid : (s : ℕ) → number h (BenchView 0) ≤ k → k < number h (Till 0) → 3 < length r → s ≤ 2 → recordGood h ts d k (withHandshake s (withAmount a r)) ≡ true
+  unfolding handshake
+  bench-paid s l u long few =
+      let r′ : List ℕ = withAmount a r in
+      let same : placeGood h ts k r′ ≡ placeGood h ts k r = place-bench h ts k r′ l u ∙ rw (with-other 1 a r 3 (λ q. omega arith)) (sym (place-bench h ts k r l u)) in
+      let now : handshake (withHandshake s r′) ≡ s = with-here 3 s r′ (omega (arith, with-long 1 a r)) in
+      other-word h ts d k 3 s r′ (λ q. omega arith) (λ q. omega arith) (omega arith) (amount-use a r ∙ there)
+      (other-amount (same ∙ record-place h ts d k r good))
+      (place-bench h ts k (withHandshake s r′) l u ∙ ap (λ (x : ℕ). leb x 2) now ∙ le-leb s 2 few)
 
   pub desk-amount : k ≡ 0 → 1 < length r → a ≤ length ts → recordGood h ts d k (withAmount a r) ≡ true
   unfolding deskGood
@@ -87,17 +102,9 @@ module _ (h : Hall) (ts : List ℕ) (d k a : ℕ) (r : List ℕ) (there : inUse 
 
 -- ---- changes that take no record into use and none out of it
 module _ (h : Hall) (old : Place → List ℕ) where
-  use-kept : (cs : List Change) → Each (Fit h) cs → Each (λ p r. inUse r ≡ inUse (old p)) cs → (q : Place) → Inside h q → inUse (lookup cs old q) ≡ inUse (old q)
-  use-kept [] n e q i = refl
-  use-kept ((p ≔ r) ∷ cs) n e q i =
-      ⊎-elim
-      (λ (s : Same q p). rw (s .test) (e .0 ∙ ap (λ (x : Place). inUse (old x)) (sym (s .is))))
-      (λ (s : Differ h q p). rw (s .test) (use-kept cs (n .1) (e .1) q i))
-      (apart-or-same h q p i (n .0 .inside))
-
   pub together-kept : (cs : List Change) → Each (Fit h) cs → Parties h (λ p. inUse (old p)) → Each (λ p r. inUse r ≡ inUse (old p)) cs → Parties h (λ p. inUse (lookup cs old p))
   together-kept cs n t e =
-      let k = use-kept cs n e in
+      let k : (q : Place) → Inside h q → inUse (lookup cs old q) ≡ inUse (old q) = λ q i. lookup-each h (λ p r. inUse r ≡ inUse (old p)) old cs n e q i refl in
       record {
         customers = λ c l. k (Carnet c) l ∙ t .customers c l ∙ sym (k (View c) l);
         benches = λ m l. k (Till m) l ∙ t .benches m l ∙ sym (k (BenchView m) l);

@@ -8,21 +8,21 @@ use Rattle.rules.specs.declared.Hall.{Hall}
 use Rattle.rules.specs.declared.Entry.{Entry}
 use Rattle.rules.specs.Lists.{ℕ, _+_, _-_, min, Bool, true, false, cond, _&&_, eqb, List, [], _∷_, _++_, length, take, drop, every, occ, isIn, allDifferent, without}
 use Rattle.rules.specs.Hall.{mostHeld, mostSales, mostBudget, Place, Desk, Carnet, View, BenchView, Till, Line, number, spendable, views}
-use Rattle.rules.specs.Records.{inUse, amount, count, sales, held, filled, made, withAmount, recordAt}
+use Rattle.rules.specs.Records.{inUse, amount, count, sales, handshake, held, filled, made, withAmount, withHandshake, recordAt}
 use Rattle.rules.specs.Sound.{total, mostTotal}
 use Rattle.rules.specs.Form.{plain}
 use Rattle.rules.specs.Steps.{dealt, left, fresh, _≔_, joining, dealing, theCarnet, theView, theBenchView, theTill, theLine, updating, stocking, soldLine, selling, authenticating, settling, clearing, toppingUp}
 use Rattle.laws.proofs.Occurrences.{occ-append, occ-split, different-once, once-different}
 use Rattle.laws.proofs.Sums.{part-of-sum}
 use Rattle.laws.proofs.Tokens.{every-append, every-take, every-drop, every-without, without-occ, without-length}
-use Rattle.laws.proofs.Made.{made-use, made-amount, made-count, made-held, amount-use, amount-is, amount-count, amount-held}
+use Rattle.laws.proofs.Made.{made-use, made-amount, made-count, made-held, with-use, with-held, amount-use, amount-is, amount-count, amount-held, handshake-amount}
 use Rattle.laws.proofs.Reflect.{Parties, Book}
 use Rattle.laws.proofs.Asked.{record-shaped, no-use, LineGood}
 use Rattle.laws.proofs.Books.{Known, held-few, full-at, facts-at, known-at, dealt-few, desk-used, till-different, line-at, fresh-different, fresh-known, fresh-long, record-more}
 use Rattle.laws.proofs.Places.{Inside, inside-below, spends-group, sees-group, benchOf, customerOf, Same, Differ, apart-or-same}
 use Rattle.rules.proofs.Named.{Each}
 use Rattle.laws.proofs.Changes.{at, Fit, at-long}
-use Rattle.keeps.proofs.Fine.{New, new-carnet, new-view, new-bench, new-till, new-line, view-amount, desk-amount, together-kept, Fine}
+use Rattle.keeps.proofs.Fine.{New, new-carnet, new-view, new-bench, new-till, new-line, view-amount, bench-paid, desk-amount, together-kept, Fine}
 
 -- a record in its place or another's: in use alike, and in use where it was
 cond-same : (t : Bool) (r r′ x x′ : List ℕ) → inUse r ≡ inUse r′ → inUse x ≡ inUse x′ → inUse (cond t r x) ≡ inUse (cond t r′ x′)
@@ -69,7 +69,7 @@ module _ (h : Hall) (ts b : List ℕ) (e : Entry) (ok : Book h ts b) where
       (record-more h ts (dealt b) n 0 (at h b Desk) (ok .1 .each 0 (omega arith))) refl (long Desk tt) l
 
   -- a record that isn't in use
-  unused : (p : Place) → Inside h p → used p ≡ 0 → (amount (at h b p) ≡ 0) × (count (at h b p) ≡ 0)
+  unused : (p : Place) → Inside h p → used p ≡ 0 → (amount (at h b p) ≡ 0) × (count (at h b p) ≡ 0) × (handshake (at h b p) ≡ 0)
   unused p i = no-use (at h b p) (record-shaped h ts (dealt b) (number h p) (at h b p) (ok .1 .each (number h p) (inside-below h p i)))
 
   pub join-customer-fine : c < h .customers → used (Carnet c) ≡ 0 → e .amount ≤ mostBudget → Fine h ts b (dealt b) 0 (e .amount) (joining (Carnet c) (View c) (e .amount))
@@ -99,7 +99,7 @@ module _ (h : Hall) (ts b : List ℕ) (e : Entry) (ok : Book h ts b) where
       record {
         deals = omega arith;
         desk = refl;
-        new = (new-till h ts (dealt b) [] (omega arith) refl m i refl, (new-bench h ts (dealt b) [] (omega arith) refl m 0 i, tt));
+        new = (new-till h ts (dealt b) [] (omega arith) refl m i refl, (new-bench h ts (dealt b) [] (omega arith) refl m 0 0 i (omega arith), tt));
         together =
             record {
               customers = old .customers;
@@ -184,7 +184,7 @@ module _ (h : Hall) (ts b : List ℕ) (e : Entry) (ok : Book h ts b) where
         new = (
           new-till h ts d new (omega arith) (fresh-known h ts b ok n) m i (fresh-different h ts b ok n),
           (
-            new-bench h ts d new (omega arith) (fresh-known h ts b ok n) m (amount (theBenchView h b e)) i,
+            new-bench h ts d new (omega arith) (fresh-known h ts b ok n) m (amount (theBenchView h b e)) 0 i (omega arith),
             (new-desk n (omega (arith, dealt-few h ts b ok)), tt),
           ),
         );
@@ -197,9 +197,9 @@ module _ (h : Hall) (ts b : List ℕ) (e : Entry) (ok : Book h ts b) where
         within = omega (arith, ok .1 .money);
       }
 
-  pub authenticate-fine : m < h .benches → used (BenchView m) ≡ 1 → Each (Fit h) (authenticating h b e) → Fine h ts b (dealt b) 0 0 (authenticating h b e)
+  pub authenticate-fine : (s : ℕ) → s ≤ 2 → m < h .benches → used (BenchView m) ≡ 1 → Each (Fit h) (authenticating h b e s) → Fine h ts b (dealt b) 0 0 (authenticating h b e s)
   unfolding authenticating occ
-  authenticate-fine i there fits =
+  authenticate-fine s small i there fits =
       let T : List ℕ = held (theTill h b e) in
       let B : List ℕ = held (theBenchView h b e) in
       let different : allDifferent T ≡ true = till-different h ts b ok (number h (Till m)) (omega arith) (omega arith) in
@@ -210,12 +210,12 @@ module _ (h : Hall) (ts b : List ℕ) (e : Entry) (ok : Book h ts b) where
           new-till h ts (dealt b) (drop 1 T) (simp length-drop (omega (arith, few (Till m)))) (every-drop _ 1 T (known (Till m) i)) m i
               (once-different (drop 1 T) (λ t. omega (arith, occ-split t 1 T, different-once T different t))),
           (
-            new-bench h ts (dealt b) (drop 1 B) (simp length-drop (omega (arith, few (BenchView m)))) (every-drop _ 1 B (known (BenchView m) i)) m (amount (theBenchView h b e)) i,
+            new-bench h ts (dealt b) (drop 1 B) (simp length-drop (omega (arith, few (BenchView m)))) (every-drop _ 1 B (known (BenchView m) i)) m (amount (theBenchView h b e)) s i small,
             tt,
           ),
         );
         together =
-            together-kept h (at h b) (authenticating h b e) fits old (simp made-use (sym (old .benches m i ∙ there)), (simp made-use (sym there), tt));
+            together-kept h (at h b) (authenticating h b e s) fits old (simp made-use (sym (old .benches m i ∙ there)), (simp made-use (sym there), tt));
         spent = λ t. omega arith;
         viewed = λ t. simp made-held (omega (arith, occ-split t 1 B));
         money = simp made-amount (omega arith);
@@ -282,23 +282,25 @@ module _ (h : Hall) (ts b : List ℕ) (e : Entry) (ok : Book h ts b) where
       ) in
       let paid : length (without X Y) + length X ≡ count (theView h b e) =
       omega (arith, without-length X Y different lives once, full (View c) ic) in
-      let balance : amount (withAmount (amount (theBenchView h b e) + length X) (theBenchView h b e)) ≡ amount (theBenchView h b e) + length X =
-      amount-is _ (theBenchView h b e) (long (BenchView m) im) in
+      let paid-view : List ℕ = withAmount (amount (theBenchView h b e) + length X) (theBenchView h b e) in
+      let balance : amount (withHandshake 0 paid-view) ≡ amount (theBenchView h b e) + length X =
+      handshake-amount 0 paid-view ∙ amount-is _ (theBenchView h b e) (long (BenchView m) im) in
+      let same : held (withHandshake 0 paid-view) ≡ held (theBenchView h b e) = with-held 3 0 paid-view (omega arith) (λ q. omega arith) ∙ amount-held _ (theBenchView h b e) in
       record {
         deals = omega arith;
         desk = refl;
         new = (
           new-view h ts (dealt b) (without X Y) (omega (arith, full (View c) ic, few (View c))) (every-without _ X Y (known (View c) ic)) c (amount (theView h b e)) ic,
           (
-            view-amount h ts (dealt b) (number h (BenchView m)) _ (theBenchView h b e) hasB (ok .1 .each (number h (BenchView m)) (inside-below h (BenchView m) im)) (omega arith) (omega arith),
+            bench-paid h ts (dealt b) (number h (BenchView m)) _ (theBenchView h b e) hasB (ok .1 .each (number h (BenchView m)) (inside-below h (BenchView m) im)) 0 (omega arith) (omega arith) (omega (arith, at-long h b (ok .0) (BenchView m) im)) (omega arith),
             (new-line h ts (dealt b) [] (omega arith) refl m c 0 (omega arith) (omega arith) refl, tt),
           ),
         );
         together =
             together-kept h (at h b) (clearing h b e plain ts) fits old
-            (simp made-use (sym hasV), (amount-use _ (theBenchView h b e), (simp made-use (sym hasL), tt)));
+            (simp made-use (sym hasV), (with-use 3 0 paid-view (λ q. omega arith) ∙ amount-use _ (theBenchView h b e), (simp made-use (sym hasL), tt)));
         spent = λ t. simp made-held (omega arith);
-        viewed = λ t. simp (made-held, amount-held) (omega (arith, without-occ t X Y));
+        viewed = λ t. simp (made-held, same) (omega (arith, without-occ t X Y));
         money = simp (made-amount, made-count, balance) (omega arith);
         within = simp made-use (omega (arith, ok .1 .money));
       }

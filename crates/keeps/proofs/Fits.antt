@@ -56,8 +56,8 @@ module _ (f : Form) (h : Hall) (ts b : List ℕ) (e : Entry) where
     named-inside (Line m c) n = (its-bench (n .0), its-customer (n .1))
 
     -- records that are made of what a record holds, or of fresh tokens
-    few : (a n k : ℕ) → length (made a 0 (drop n (held (recordAt k b)))) ≡ words
-    few a n k = made-long a 0 (drop n (held (recordAt k b))) (simp length-drop (omega (arith, held-few k b)))
+    few : (a s n k : ℕ) → length (made a s (drop n (held (recordAt k b)))) ≡ words
+    few a s n k = made-long a s (drop n (held (recordAt k b))) (simp length-drop (omega (arith, held-few k b)))
 
     new : (a n : ℕ) → n ≤ mostHeld → length (made a 0 (fresh ts b n)) ≡ words
     new a n l = made-long a 0 (fresh ts b n) (simp length-take (omega arith))
@@ -87,13 +87,13 @@ module _ (f : Form) (h : Hall) (ts b : List ℕ) (e : Entry) where
           stock = λ k.
               let l : min (e .amount) (left ts b) ≤ mostHeld = omega (arith, stock-few f h ts b e v k) in
               (new 0 (min (e .amount) (left ts b)) l, (new _ (min (e .amount) (left ts b)) l, (same _ Desk tt, tt)));
-          sell = λ k. (few 0 (e .amount) _, (sold k, tt));
-          bench-authenticates = λ k. (few 0 1 _, (few _ 1 _, tt));
-          desk-authenticates = λ k. (few 0 1 _, (few _ 1 _, tt));
+          sell = λ k. (few 0 0 (e .amount) _, (sold k, tt));
+          bench-authenticates = λ k. (few 0 0 1 _, (few _ 1 1 _, tt));
+          desk-authenticates = λ k. (few 0 0 1 _, (few _ 2 1 _, tt));
           clear = λ k.
               let t : List ℕ = f .tokens ts (theLine h b e) in (
                 made-long _ 0 (without t (held (theView h b e))) (omega (arith, without-short t (held (theView h b e)), held-few (number h (View (e .customer))) b)),
-                (same _ (BenchView (e .bench)) (clear-bench k), (none 0, tt)),
+                (with-long 3 0 _ ∙ same _ (BenchView (e .bench)) (clear-bench k), (none 0, tt)),
               );
           top-up = λ k. (same _ (View (e .customer)) (top-up-customer k), tt);
         }

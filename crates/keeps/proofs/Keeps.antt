@@ -1,6 +1,5 @@
 -- Soundness is kept: by every step of a plain book, and, in a form whose granted steps keep it, by every step and every run.
-use mathlib.Core.Path.{_≡_, refl, sym, ap, _∙_}
-use mathlib.Core.Logic.{⊎-elim}
+use mathlib.Core.Path.{_≡_, refl, ap, _∙_}
 use Prim.Native.Nat.{_≤_, _<_}
 use native.Mathlib.Omega.{arith}
 use Rattle.rules.specs.declared.Hall.{Hall}
@@ -87,8 +86,8 @@ module _ (h : Hall) (ts b : List ℕ) (e : Entry) (v : verdict plain h ts b e �
             let i : (e .bench < h .benches) × (e .customer < h .customers) = (bench 6 q refl, customer 6 q refl) in
             let few = sell-few plain h ts b e v q (line-at h ts b ok (number h (Line (e .bench) (e .customer))) (omega arith) (inside-below h (Line (e .bench) (e .customer)) i) .few) in
             (_, (_, sell-fine h ts b e ok (i .0) (i .1) (hasC 6 q (omega arith) refl) (hasL 6 q refl) (sell-enough plain h ts b e v q) (sell-room plain h ts b e v q) few w));
-        bench-authenticates = λ q w. (_, (_, authenticate-fine h ts b e ok (bench 7 q refl) (hasB 7 q (omega arith) refl) w));
-        desk-authenticates = λ q w. (_, (_, authenticate-fine h ts b e ok (bench 8 q refl) (hasB 8 q (omega arith) refl) w));
+        bench-authenticates = λ q w. (_, (_, authenticate-fine h ts b e ok 1 (omega arith) (bench 7 q refl) (hasB 7 q (omega arith) refl) w));
+        desk-authenticates = λ q w. (_, (_, authenticate-fine h ts b e ok 2 (omega arith) (bench 8 q refl) (hasB 8 q (omega arith) refl) w));
         clear = λ q w.
             (_, (_, clear-fine h ts b e ok (bench 9 q refl) (customer 9 q refl) (hasV 9 q (omega arith) refl) (hasB 9 q (omega arith) refl) (hasL 9 q refl) (clear-lives plain h ts b e v q) w));
         top-up = λ q w. (_, (_, top-up-fine h ts b e ok (customer 10 q refl) (hasV 10 q (omega arith) refl) (top-up-within plain h ts b e v q) w));

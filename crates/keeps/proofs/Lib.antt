@@ -6,3 +6,5 @@ pub mod Isolation
 pub mod Origin
 pub mod Tenants
 pub mod Nothing
+pub mod BenchViews
+pub mod Handshake

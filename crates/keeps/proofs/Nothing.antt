@@ -1,4 +1,4 @@
--- A sale of 0, a clear of an empty line and a top up of 0 change no word of a sound book.
+-- A sale of 0 and a top up of 0 change no word of a sound book, and a clear of an empty line none but the handshake, which it uses up.
 use mathlib.Core.Path.{_≡_, refl, sym, ap, _∙_}
 use mathlib.Core.Logic.{⊎-elim}
 use Prim.Native.Nat.{_≤_, _<_}
@@ -6,9 +6,9 @@ use native.Mathlib.Omega.{arith}
 use borrow.Author.Tests.{eqb-true}
 use Rattle.rules.specs.declared.Hall.{Hall}
 use Rattle.rules.specs.declared.Entry.{Entry}
-use Rattle.rules.specs.Lists.{ℕ, _+_, min, true, _&&_, _||_, leb, eqb, List, [], _∷_, _++_, length, take, drop, occ, without}
-use Rattle.rules.specs.Hall.{Place, Carnet, View, Till, Line, number, records}
-use Rattle.rules.specs.Records.{words, inUse, amount, count, sales, held, filled, made, withAmount, recordAt, put}
+use Rattle.rules.specs.Lists.{ℕ, _+_, _*_, min, true, _&&_, _||_, leb, eqb, List, [], _∷_, _++_, length, take, drop, occ, without}
+use Rattle.rules.specs.Hall.{Place, Carnet, View, BenchView, Line, number, records}
+use Rattle.rules.specs.Records.{words, inUse, amount, count, sales, held, filled, made, withWord, withAmount, withHandshake, recordAt, put}
 use Rattle.rules.specs.Tape.{Sell, Clear, TopUp, kindOf, usesBench, usesCustomer}
 use Rattle.rules.specs.Form.{Form, plain}
 use Rattle.rules.specs.Steps.{Change, _≔_, putAll, theCarnet, theView, theBenchView, theLine, soldLine, selling, settling, clearing, toppingUp, changes}
@@ -16,13 +16,14 @@ use Rattle.rules.specs.Verdicts.{verdict, step}
 use Rattle.rules.proofs.Tests.{below, parts}
 use Rattle.rules.proofs.Stepping.{step-changes}
 use Rattle.rules.proofs.Granted.{granted-good, bench-inside, customer-inside, has-customer, has-line}
-use Rattle.laws.proofs.Blocks.{block-back}
-use Rattle.laws.proofs.Made.{with-own}
+use Rattle.laws.proofs.Blocks.{block-back, block-word}
+use Rattle.laws.proofs.Made.{with-long, with-own}
 use Rattle.laws.proofs.Reflect.{Book, sound-facts}
 use Rattle.laws.proofs.Asked.{record-shaped, record-is, record-made, held-none, place-view}
 use Rattle.laws.proofs.Books.{long-at, place-at, bare-at, line-at}
-use Rattle.laws.proofs.Places.{inside-below}
-use Rattle.laws.proofs.Changes.{at}
+use Rattle.laws.proofs.Places.{Inside, inside-below}
+use Rattle.laws.proofs.Changes.{at, Fit, at-long, put-off}
+use Rattle.keeps.proofs.Fits.{Regular, plain-regular}
 
 -- ---- changes that write what stands there
 data Standing (h : Hall) (b : List ℕ) : List Change → Type 0 where
@@ -30,13 +31,13 @@ data Standing (h : Hall) (b : List ℕ) : List Change → Type 0 where
   _also_ : {p : Place} {r : List ℕ} {cs : List Change} → at h b p ≡ r → Standing h b cs → Standing h b ((p ≔ r) ∷ cs)
 
 infixr 20 _also_
+put-same : (h : Hall) (b : List ℕ) (p : Place) (r : List ℕ) → at h b p ≡ r → put (number h p) r b ≡ b
+put-same h b p r e = ap (λ (x : List ℕ). put (number h p) x b) (sym e) ∙ block-back words (number h p) b
+
 put-standing : (h : Hall) (b : List ℕ) {cs : List Change} → Standing h b cs → putAll h cs b ≡ b
 unfolding putAll
 put-standing h b none = refl
-put-standing h b (_also_ {p} {r} {cs} e s) =
-    ap (λ (x : List ℕ). putAll h cs (put (number h p) x b)) (sym e)
-    ∙ ap (putAll h cs) (block-back words (number h p) b)
-    ∙ put-standing h b s
+put-standing h b (_also_ {p} {r} {cs} e s) = ap (putAll h cs) (put-same h b p r e) ∙ put-standing h b s
 
 without-none : (xs : List ℕ) → without [] xs ≡ xs
 unfolding without occ
@@ -46,7 +47,7 @@ without-none (x ∷ xs) = ap (λ (l : List ℕ). x ∷ l) (without-none xs)
 -- ---- what each form shows of a sound book: its records in use stand as a step would write them
 pub record Tidy (f : Form) (h : Hall) (ts b : List ℕ) : Type 0 where
   pub no-sale : f .sale [] ≡ []
-  pub made-at : (k : ℕ) → number h (Carnet 0) ≤ k → k < number h (Till 0) → inUse (recordAt k b) ≡ 1
+  pub made-at : (k : ℕ) → number h (Carnet 0) ≤ k → k < number h (BenchView 0) → inUse (recordAt k b) ≡ 1
       → recordAt k b ≡ made (amount (recordAt k b)) 0 (held (recordAt k b))
   pub no-amount : (k : ℕ) → number h (Carnet 0) ≤ k → k < number h (View 0) → amount (recordAt k b) ≡ 0
   pub joined : (c : ℕ) → c < h .customers → inUse (at h b (Carnet c)) ≡ inUse (at h b (View c))
@@ -58,7 +59,7 @@ pub record Tidy (f : Form) (h : Hall) (ts b : List ℕ) : Type 0 where
 abbrev pub Tidies : Form → Type 0
 Tidies f = (h : Hall) (ts b : List ℕ) → f .good h ts b ≡ true → Tidy f h ts b
 
-module _ (f : Form) (tidies : Tidies f) (h : Hall) (ts b : List ℕ) (e : Entry) (v : verdict f h ts b e ≡ 0) where
+module _ (f : Form) (regular : Regular f) (tidies : Tidies f) (h : Hall) (ts b : List ℕ) (e : Entry) (v : verdict f h ts b e ≡ 0) where
   tidy : Tidy f h ts b
   tidy = tidies h ts b (granted-good f h ts b e v)
 
@@ -107,26 +108,37 @@ module _ (f : Form) (tidies : Tidies f) (h : Hall) (ts b : List ℕ) (e : Entry)
         also (line-filled ∙ sym still ∙ ap sold (sym z))
         also none
 
-    none-waiting : count (theLine h b e) ≡ 0 → Standing h b (clearing h b e f ts)
-    unfolding settling clearing made amount
+    -- the view and the line stand as they are written, and the bench's view but for its handshake
+    none-waiting : count (theLine h b e) ≡ 0 → putAll h (clearing h b e f ts) b ≡ withWord (words * number h (BenchView (e .bench)) + 3) 0 b
+    unfolding putAll settling clearing made amount withWord
     none-waiting z =
+        let B : ℕ = number h (BenchView (e .bench)) in
+        let im : Inside h (BenchView (e .bench)) = m-in in
+        let long : length b ≡ words * records h = regular .long h ts b (granted-good f h ts b e v) in
+        let fit : Fit h (BenchView (e .bench)) (withHandshake 0 (theBenchView h b e)) =
+        record { inside = im; long = with-long 3 0 (theBenchView h b e) ∙ at-long h b long (BenchView (e .bench)) im } in
         let empty = tidy .emptied (number h (Line (e .bench) (e .customer))) (omega arith) line-in z in
         let blank : filled 1 0 (count (theLine h b e)) (sales (theLine h b e)) (f .cells (theLine h b e)) ≡ made 0 0 [] = rw (z, empty .0, empty .2) in
-        let paid : amount (theBenchView h b e) + length (f .tokens ts (theLine h b e)) ≡ amount (theBenchView h b e) = rw (empty .1) (omega arith) in
+        let unpaid : amount (theBenchView h b e) + length (f .tokens ts (theLine h b e)) ≡ amount (theBenchView h b e) = rw (empty .1) (omega arith) in
+        ap (λ (x : List ℕ). put (number h (Line (e .bench) (e .customer))) (made 0 0 []) (put B (withHandshake 0 (withAmount (amount (theBenchView h b e) + length (f .tokens ts (theLine h b e))) (theBenchView h b e))) x))
+        (put-same h b (View (e .customer)) _
         (view-made
         ∙ ap (made (amount (theView h b e)) 0)
-        (sym (ap (λ (t : List ℕ). without t (held (theView h b e))) (empty .1) ∙ without-none (held (theView h b e)))))
-        also (sym (ap (λ (a : ℕ). withAmount a (theBenchView h b e)) paid ∙ with-own 1 (theBenchView h b e)))
-        also (line-filled ∙ blank)
-        also none
+        (sym (ap (λ (t : List ℕ). without t (held (theView h b e))) (empty .1) ∙ without-none (held (theView h b e))))))
+        ∙ ap (λ (x : List ℕ). put (number h (Line (e .bench) (e .customer))) (made 0 0 []) (put B (withHandshake 0 x) b))
+        (ap (λ (a : ℕ). withAmount a (theBenchView h b e)) unpaid ∙ with-own 1 (theBenchView h b e))
+        ∙ put-same h (put B (withHandshake 0 (theBenchView h b e)) b) (Line (e .bench) (e .customer)) (made 0 0 [])
+        (put-off h b long (BenchView (e .bench)) (withHandshake 0 (theBenchView h b e)) fit (number h (Line (e .bench) (e .customer))) (λ q. omega arith)
+        ∙ line-filled ∙ blank)
+        ∙ sym (block-word words B 3 0 b (omega (arith, long, inside-below h (BenchView (e .bench)) im)) (omega arith))
 
   sale-of-none : e .kind ≡ kindOf Sell → e .amount ≡ 0 → step f h ts b e .cells ≡ b
   unfolding changes occ
   sale-of-none q z = stays (kindOf Sell) q (none-sold (kindOf Sell) q refl z)
 
-  clear-of-none : e .kind ≡ kindOf Clear → count (theLine h b e) ≡ 0 → step f h ts b e .cells ≡ b
+  clear-of-none : e .kind ≡ kindOf Clear → count (theLine h b e) ≡ 0 → step f h ts b e .cells ≡ withWord (words * number h (BenchView (e .bench)) + 3) 0 b
   unfolding changes occ
-  clear-of-none q z = stays (kindOf Clear) q (none-waiting (kindOf Clear) q refl z)
+  clear-of-none q z = step-changes f h ts b e v q ∙ none-waiting (kindOf Clear) q refl z
 
   top-up-of-none : e .kind ≡ kindOf TopUp → e .amount ≡ 0 → step f h ts b e .cells ≡ b
   unfolding changes toppingUp amount
@@ -138,14 +150,16 @@ module _ (f : Form) (tidies : Tidies f) (h : Hall) (ts b : List ℕ) (e : Entry)
 -- ---- so, of a form
 pub record Still (f : Form) : Type 0 where
   pub no-sale : (h : Hall) (ts b : List ℕ) (e : Entry) → verdict f h ts b e ≡ 0 → e .kind ≡ kindOf Sell → e .amount ≡ 0 → step f h ts b e .cells ≡ b
-  pub empty-clear : (h : Hall) (ts b : List ℕ) (e : Entry) → verdict f h ts b e ≡ 0 → e .kind ≡ kindOf Clear → count (theLine h b e) ≡ 0 → step f h ts b e .cells ≡ b
+  pub empty-clear : (h : Hall) (ts b : List ℕ) (e : Entry) → verdict f h ts b e ≡ 0 → e .kind ≡ kindOf Clear → count (theLine h b e) ≡ 0
+      → step f h ts b e .cells ≡ withWord (words * number h (BenchView (e .bench)) + 3) 0 b
   pub no-top-up : (h : Hall) (ts b : List ℕ) (e : Entry) → verdict f h ts b e ≡ 0 → e .kind ≡ kindOf TopUp → e .amount ≡ 0 → step f h ts b e .cells ≡ b
 
-pub still : (f : Form) → Tidies f → Still f
-still f tidies = record { no-sale = sale-of-none f tidies; empty-clear = clear-of-none f tidies; no-top-up = top-up-of-none f tidies }
+pub still : (f : Form) → Regular f → Tidies f → Still f
+still f regular tidies =
+    record { no-sale = sale-of-none f regular tidies; empty-clear = clear-of-none f regular tidies; no-top-up = top-up-of-none f regular tidies }
 
 -- ---- the plain book
-pub made-as-it-stands : (h : Hall) (ts b : List ℕ) → Book h ts b → (k : ℕ) → number h (Carnet 0) ≤ k → k < number h (Till 0) → inUse (recordAt k b) ≡ 1
+pub made-as-it-stands : (h : Hall) (ts b : List ℕ) → Book h ts b → (k : ℕ) → number h (Carnet 0) ≤ k → k < number h (BenchView 0) → inUse (recordAt k b) ≡ 1
     → recordAt k b ≡ made (amount (recordAt k b)) 0 (held (recordAt k b))
 made-as-it-stands h ts b ok k l u i =
     record-made (recordAt k b) (long-at h ts b ok k (omega arith)) (record-shaped h ts _ k (recordAt k b) (ok .1 .each k (omega arith))) i
@@ -170,4 +184,4 @@ plain-tidies h ts b g =
     }
 
 pub plain-still : Still plain
-plain-still = still plain plain-tidies
+plain-still = still plain plain-regular plain-tidies

@@ -15,7 +15,7 @@ use Rattle.rules.specs.Steps.{settling, clearing, changes, theLine}
 use Rattle.rules.specs.Verdicts.{verdict, step, steps}
 use Rattle.rules.proofs.Stepping.{step-changes, sold-before}
 use Rattle.rules.proofs.Granted.{granted-good, granted-kind, bench-inside, customer-inside, sell-enough}
-use Rattle.laws.proofs.Made.{made-held, amount-is}
+use Rattle.laws.proofs.Made.{made-held, amount-is, handshake-amount}
 use Rattle.laws.proofs.Reflect.{sound-facts}
 use Rattle.laws.proofs.Books.{full-at}
 use Rattle.laws.proofs.Places.{inside-below}
@@ -51,7 +51,7 @@ module _ (f : Form) (regular : Regular f) (h : Hall) (ts b : List ℕ) (e : Entr
   unfolding changes settling clearing
   credits =
       rw (eq-eqb (e .bench) (e .bench) refl)
-      (amount-is _ (at h b (BenchView (e .bench))) (omega (arith, at-long h b long (BenchView (e .bench)) m-in)))
+      (handshake-amount 0 _ ∙ amount-is _ (at h b (BenchView (e .bench))) (omega (arith, at-long h b long (BenchView (e .bench)) m-in)))
 
   balance : amount (at h (step f h ts b e .cells) (BenchView (e .bench))) ≡ amount (at h b (BenchView (e .bench))) + length (f .tokens ts (theLine h b e))
   balance =

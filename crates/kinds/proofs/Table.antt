@@ -9,8 +9,8 @@ use Rattle.rules.specs.Form.{Form}
 use Rattle.rules.specs.Steps.{putAll, changes, effect}
 use Rattle.rules.specs.Verdicts.{table, step}
 use Rattle.rules.proofs.Answering.{first-past}
-use Rattle.kinds.specs.Chains.{joinCustomerRules, joinBenchRules, openRules, updateRules, stockRules, lineRules, saleRules, clearRules, authenticateRules, topUpRules}
-use Rattle.kinds.specs.Kinds.{joinCustomer, joinBench, openLine, update, stock, authenticate, knownLine, sell, clear, topUp, numbered, Passed}
+use Rattle.kinds.specs.Chains.{joinCustomerRules, joinBenchRules, openRules, updateRules, stockRules, lineRules, saleRules, shakenRules, clearRules, compareRules, benchRules, deskRules, topUpRules}
+use Rattle.kinds.specs.Kinds.{joinCustomer, joinBench, openLine, update, stock, benchAuthenticates, deskAuthenticates, knownLine, sell, clear, topUp, numbered, Passed}
 
 or-no : (a : Bool) → a || false ≡ a
 or-no true = refl
@@ -71,16 +71,16 @@ module _ (f : Form) (h : Hall) (ts b : List ℕ) where
   unfolding later table entryRules first occ changes sell knownLine lineRules saleRules
   step-sell = of-its-kind (λ e. sell h b e f) 6 (λ e. answers-alike _ _ _ _ b refl refl)
 
-  pub step-bench-authenticates : (e : Entry) → Passed f h ts b e → e .kind ≡ 7 → step f h ts b e ≡ numbered f h ts b e (authenticate h b e)
-  unfolding later table entryRules first occ changes authenticate authenticateRules
-  step-bench-authenticates = of-its-kind (authenticate h b) 7 (λ e. answers-alike _ _ _ _ b (simp or-no refl) refl)
+  pub step-bench-authenticates : (e : Entry) → Passed f h ts b e → e .kind ≡ 7 → step f h ts b e ≡ numbered f h ts b e (benchAuthenticates h b e)
+  unfolding later table entryRules first occ changes benchAuthenticates benchRules compareRules
+  step-bench-authenticates = of-its-kind (benchAuthenticates h b) 7 (λ e. answers-alike _ _ _ _ b (simp or-no refl) refl)
 
-  pub step-desk-authenticates : (e : Entry) → Passed f h ts b e → e .kind ≡ 8 → step f h ts b e ≡ numbered f h ts b e (authenticate h b e)
-  unfolding later table entryRules first occ changes authenticate authenticateRules
-  step-desk-authenticates = of-its-kind (authenticate h b) 8 (λ e. answers-alike _ _ _ _ b (simp or-no refl) refl)
+  pub step-desk-authenticates : (e : Entry) → Passed f h ts b e → e .kind ≡ 8 → step f h ts b e ≡ numbered f h ts b e (deskAuthenticates h b e)
+  unfolding later table entryRules first occ changes deskAuthenticates deskRules compareRules
+  step-desk-authenticates = of-its-kind (deskAuthenticates h b) 8 (λ e. answers-alike _ _ _ _ b (simp or-no refl) refl)
 
   pub step-clear : (e : Entry) → Passed f h ts b e → e .kind ≡ 9 → step f h ts b e ≡ numbered f h ts b e (clear h b e f ts)
-  unfolding later table entryRules first occ changes clear knownLine lineRules clearRules
+  unfolding later table entryRules first occ changes clear knownLine lineRules shakenRules clearRules
   step-clear = of-its-kind (λ e. clear h b e f ts) 9 (λ e. answers-alike _ _ _ _ b refl refl)
 
   pub step-top-up : (e : Entry) → Passed f h ts b e → e .kind ≡ 10 → step f h ts b e ≡ numbered f h ts b e (topUp h b e)

@@ -37,14 +37,26 @@ unfoldable pub saleRules : ℕ → ℕ → ℕ → ℕ → List Rule
 saleRules carnet line sales n =
     (11 ⇐ ltb carnet n) ∷ (12 ⇐ ltb mostHeld (line + n) || ltb 0 n && eqb sales mostSales) ∷ []
 
--- then, for a clear: the place of the first dead token, and how many tokens there are
+-- then, for a clear: the handshake in the desk's view of the bench
+unfoldable pub shakenRules : ℕ → List Rule
+shakenRules handshake = (17 ⇐ not (eqb handshake 2)) ∷ []
+
+-- and the place of the first dead token, and how many tokens there are
 unfoldable pub clearRules : ℕ → ℕ → List Rule
 clearRules dead n = (15 ⇐ ltb dead n) ∷ []
 
--- the word on use of the desk's view of a bench; the counts of till and view, and the first cell of each
-unfoldable pub authenticateRules : ℕ → ℕ → ℕ → ℕ → ℕ → List Rule
-authenticateRules used till view mine theirs =
-    (5 ⇐ not (eqb used 1)) ∷ (13 ⇐ eqb till 0 || eqb view 0) ∷ (14 ⇐ not (eqb mine theirs)) ∷ []
+-- for either authentication: the counts of a till and of the desk's view of the bench, and the first cell of each
+unfoldable pub compareRules : ℕ → ℕ → ℕ → ℕ → List Rule
+compareRules till view mine theirs = (13 ⇐ eqb till 0 || eqb view 0) ∷ (14 ⇐ not (eqb mine theirs)) ∷ []
+
+-- before that, for the bench's: the view's word on use
+unfoldable pub benchRules : ℕ → ℕ → ℕ → ℕ → ℕ → List Rule
+benchRules used till view mine theirs = (5 ⇐ not (eqb used 1)) ∷ compareRules till view mine theirs
+
+-- and for the desk's: its handshake too
+unfoldable pub deskRules : ℕ → ℕ → ℕ → ℕ → ℕ → ℕ → List Rule
+deskRules used handshake till view mine theirs =
+    (5 ⇐ not (eqb used 1)) ∷ (17 ⇐ not (eqb handshake 1)) ∷ compareRules till view mine theirs
 
 -- the word on use of the desk's view of a customer; the hall's money, and the most that it may be; n
 unfoldable pub topUpRules : ℕ → ℕ → ℕ → ℕ → List Rule

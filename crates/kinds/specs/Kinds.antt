@@ -6,13 +6,13 @@ use Rattle.rules.specs.declared.Hall.{Hall}
 use Rattle.rules.specs.declared.Entry.{Entry}
 use Rattle.rules.specs.Hall.{mostTokens, Carnet, View, BenchView, Till, Line, records}
 use Rattle.rules.specs.Answers.{Rule, first, Answer, answer}
-use Rattle.rules.specs.Records.{words, inUse, amount, count, sales, cells, made, recordAt}
+use Rattle.rules.specs.Records.{words, inUse, amount, count, sales, handshake, cells, made, recordAt}
 use Rattle.rules.specs.Sound.{total, mostTotal}
 use Rattle.rules.specs.Tape.{entryRules}
 use Rattle.rules.specs.Form.{Form}
 use Rattle.rules.specs.Steps.{Change, _≔_, putAll, dealt, left, joining, updating, stocking, selling, authenticating, clearing, toppingUp, theCarnet, theView, theBenchView, theTill, theLine}
 use Rattle.rules.specs.Verdicts.{Stepped, beside, waiting, deadAt, second}
-use Rattle.kinds.specs.Chains.{joinCustomerRules, joinBenchRules, openRules, updateRules, stockRules, lineRules, saleRules, clearRules, authenticateRules, topUpRules}
+use Rattle.kinds.specs.Chains.{joinCustomerRules, joinBenchRules, openRules, updateRules, stockRules, lineRules, saleRules, shakenRules, clearRules, benchRules, deskRules, topUpRules}
 
 -- the first number that applies; where none does, the changes are made
 abbrev pub judged : Hall → List ℕ → List Rule → List Change → Answer
@@ -38,11 +38,17 @@ module _ (h : Hall) (b : List ℕ) (e : Entry) where
   unfoldable pub stock : List ℕ → Answer
   stock ts = judged h b (stockRules (inUse (theBenchView h b e)) (e .amount)) (stocking h b e ts)
 
-  unfoldable pub authenticate : Answer
-  authenticate =
+  unfoldable pub benchAuthenticates : Answer
+  benchAuthenticates =
       judged h b
-      (authenticateRules (inUse (theBenchView h b e)) (count (theTill h b e)) (count (theBenchView h b e)) (getD (cells (theTill h b e)) 0 0) (getD (cells (theBenchView h b e)) 0 0))
-      (authenticating h b e)
+      (benchRules (inUse (theBenchView h b e)) (count (theTill h b e)) (count (theBenchView h b e)) (getD (cells (theTill h b e)) 0 0) (getD (cells (theBenchView h b e)) 0 0))
+      (authenticating h b e 1)
+
+  unfoldable pub deskAuthenticates : Answer
+  deskAuthenticates =
+      judged h b
+      (deskRules (inUse (theBenchView h b e)) (handshake (theBenchView h b e)) (count (theTill h b e)) (count (theBenchView h b e)) (getD (cells (theTill h b e)) 0 0) (getD (cells (theBenchView h b e)) 0 0))
+      (authenticating h b e 2)
 
   -- a sale and a clear are judged alike at first
   unfoldable pub knownLine : List Rule
@@ -57,7 +63,7 @@ module _ (h : Hall) (b : List ℕ) (e : Entry) where
   unfoldable pub clear : Form → List ℕ → Answer
   clear f ts =
       judged h b
-      (knownLine ++ clearRules (deadAt f h ts b e) (length (waiting f h ts b e)))
+      ((knownLine ++ shakenRules (handshake (theBenchView h b e))) ++ clearRules (deadAt f h ts b e) (length (waiting f h ts b e)))
       (clearing h b e f ts)
 
   unfoldable pub topUp : Answer

@@ -5,9 +5,9 @@ use native.Mathlib.Omega.{arith}
 use lib.ListN.{length-take, length-drop}
 use borrow.Author.Tests.{lt-ltb, le-ltb, le-leb, eq-eqb, ne-eqb}
 use Rattle.rules.specs.declared.Hall.{Hall}
-use Rattle.rules.specs.Lists.{ℕ, min, Bool, true, false, _&&_, _||_, eqb, List, [], length, take, drop, every, allZero, isIn, allDifferent}
-use Rattle.rules.specs.Hall.{mostHeld, mostSales, Carnet, View, Till, Line, number}
-use Rattle.rules.specs.Records.{words, inUse, amount, count, sales, cells, held, filled, made}
+use Rattle.rules.specs.Lists.{ℕ, min, Bool, true, false, _&&_, _||_, leb, eqb, List, [], length, take, drop, every, allZero, isIn, allDifferent}
+use Rattle.rules.specs.Hall.{mostHeld, mostSales, Carnet, View, BenchView, Till, Line, number}
+use Rattle.rules.specs.Records.{words, inUse, amount, count, sales, handshake, cells, held, filled, made}
 use Rattle.rules.specs.Sound.{shaped, deskGood, bare, lineGood, placeGood, recordGood}
 use Rattle.rules.proofs.Tests.{parts, whole, true-and}
 use Rattle.laws.proofs.Zeros.{zero-at}
@@ -53,10 +53,10 @@ module _ (r : List ℕ) where
         blank = λ z. one-of (eqb (inUse r) 1) (allZero r) used (ne-eqb (inUse r) 1 (λ o. omega arith));
       }
 
-  -- a record that isn't in use has no money and no tokens
-  pub no-use : shaped r ≡ true → inUse r ≡ 0 → (amount r ≡ 0) × (count r ≡ 0)
-  unfolding amount count
-  no-use s z = let zero = shaped-facts s .blank z in (zero-at r zero 1, zero-at r zero 2)
+  -- a record that isn't in use has no money, no tokens and no handshake
+  pub no-use : shaped r ≡ true → inUse r ≡ 0 → (amount r ≡ 0) × (count r ≡ 0) × (handshake r ≡ 0)
+  unfolding amount count handshake
+  no-use s z = let zero = shaped-facts s .blank z in (zero-at r zero 1, zero-at r zero 2, zero-at r zero 3)
 
   pub held-none : count r ≡ 0 → held r ≡ []
   unfolding held
@@ -90,10 +90,20 @@ module _ (h : Hall) (ts : List ℕ) (k : ℕ) (r : List ℕ) where
   unfolding placeGood
   place-carnet l u = rw (le-ltb k (number h (Carnet 0)) l, lt-ltb k (number h (View 0)) u)
 
-  pub place-view : number h (View 0) ≤ k → k < number h (Till 0) → placeGood h ts k r ≡ eqb (sales r) 0
+  pub place-view : number h (View 0) ≤ k → k < number h (BenchView 0) → placeGood h ts k r ≡ eqb (sales r) 0
   unfolding placeGood
   place-view l u =
-      rw (le-ltb k (number h (Carnet 0)) (omega arith), le-ltb k (number h (View 0)) l, lt-ltb k (number h (Till 0)) u)
+      rw (le-ltb k (number h (Carnet 0)) (omega arith), le-ltb k (number h (View 0)) l, lt-ltb k (number h (BenchView 0)) u)
+
+  pub place-bench : number h (BenchView 0) ≤ k → k < number h (Till 0) → placeGood h ts k r ≡ leb (handshake r) 2
+  unfolding placeGood
+  place-bench l u =
+      rw (
+        le-ltb k (number h (Carnet 0)) (omega arith),
+        le-ltb k (number h (View 0)) (omega arith),
+        le-ltb k (number h (BenchView 0)) l,
+        lt-ltb k (number h (Till 0)) u,
+      )
 
   pub place-till : number h (Till 0) ≤ k → k < number h (Line 0 0) → placeGood h ts k r ≡ bare r && allDifferent (held r)
   unfolding placeGood
@@ -101,6 +111,7 @@ module _ (h : Hall) (ts : List ℕ) (k : ℕ) (r : List ℕ) where
       rw (
         le-ltb k (number h (Carnet 0)) (omega arith),
         le-ltb k (number h (View 0)) (omega arith),
+        le-ltb k (number h (BenchView 0)) (omega arith),
         le-ltb k (number h (Till 0)) l,
         lt-ltb k (number h (Line 0 0)) u,
       )
@@ -111,6 +122,7 @@ module _ (h : Hall) (ts : List ℕ) (k : ℕ) (r : List ℕ) where
       rw (
         le-ltb k (number h (Carnet 0)) (omega arith),
         le-ltb k (number h (View 0)) (omega arith),
+        le-ltb k (number h (BenchView 0)) (omega arith),
         le-ltb k (number h (Till 0)) (omega arith),
         le-ltb k (number h (Line 0 0)) l,
       )

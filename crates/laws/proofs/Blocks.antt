@@ -41,6 +41,13 @@ module _ (n k : ℕ) (r b : List ℕ) (long : length r ≡ n) (fits : n * k + n 
   unfolding putBlock
   tail-kept = sym (drop-drop n (n * k) _) ∙ ap (drop n) (drop-at (take (n * k) b) _ _ head-length) ∙ drop-at r _ n long
 
+  -- another block over it
+  pub block-again : (r′ : List ℕ) → putBlock n k r′ (putBlock n k r b) ≡ putBlock n k r′ b
+  unfolding putBlock
+  block-again r′ =
+      ap (λ (x : List ℕ). x ++ (r′ ++ drop (n * k + n) (putBlock n k r b))) (take-at (take (n * k) b) _ (n * k) head-length)
+      ∙ ap (λ (x : List ℕ). take (n * k) b ++ (r′ ++ x)) tail-kept
+
   pub block-other : (j : ℕ) → (j ≡ k → ⊥) → blockAt n j (putBlock n k r b) ≡ blockAt n j b
   unfolding blockAt putBlock
   block-other j ne =

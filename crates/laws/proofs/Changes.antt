@@ -65,6 +65,16 @@ lookup-old old old′ q e [] = e
 lookup-old old old′ q e ((p ≔ r) ∷ cs) = ap (cond (samePlace q p) r) (lookup-old old old′ q e cs)
 
 module _ (h : Hall) where
+  -- what G says of every new record and of the old one at a place, it says of the record there after the changes
+  pub lookup-each : (G : Place → List ℕ → Type 0) (old : Place → List ℕ) (cs : List Change) → Each (Fit h) cs → Each G cs → (q : Place) → Inside h q → G q (old q)
+      → G q (lookup cs old q)
+  lookup-each G old [] fits new q i was = was
+  lookup-each G old ((p ≔ r) ∷ cs) fits new q i was =
+      ⊎-elim
+      (λ (s : Same q p). rw (s .test) (subst (λ (x : Place). G x r) (sym (s .is)) (new .0)))
+      (λ (d : Differ h q p). rw (d .test) (lookup-each G old cs (fits .1) (new .1) q i was))
+      (apart-or-same h q p i (fits .0 .inside))
+
   pub at-long : (b : List ℕ) → length b ≡ words * records h → (p : Place) → Inside h p → length (at h b p) ≡ words
   at-long b long p i = block-long words (number h p) b (omega (arith, inside-below h p i))
 

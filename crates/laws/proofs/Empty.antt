@@ -9,7 +9,7 @@ use borrow.Author.Tests.{le-ltb, le-leb}
 use Rattle.rules.specs.declared.Hall.{Hall}
 use Rattle.rules.specs.Lists.{ℕ, zero, suc, _+_, _*_, _-_, Bool, true, false, cond, ltb, List, [], length, take, every, occ, allDifferent, sameList}
 use Rattle.rules.specs.Hall.{Carnet, View, BenchView, Till, Line, number, records, spendable, customerViews, views, lines}
-use Rattle.rules.specs.Records.{words, inUse, amount, count, sales, held, filled, made, blockAt, recordAt}
+use Rattle.rules.specs.Records.{words, inUse, amount, count, sales, handshake, held, filled, made, blockAt, recordAt}
 use Rattle.rules.specs.Sound.{goodList, shaped, deskGood, bare, lineGood, placeGood, recordGood, sound, emptyBook}
 use Rattle.rules.specs.Slips.{slipTokens, openSlip, openSlips, openedLine, openBook, slipSum, slipsGood, slipLineGood, isRun, slipSound}
 use Rattle.rules.proofs.Tests.{below, true-and}
@@ -110,11 +110,12 @@ module _ (h : Hall) where
 
   module _ (ts : List ℕ) (good : goodList ts ≡ true) where
     blank-good : (d k : ℕ) → 0 < k → recordGood h ts d k blank ≡ true
-    unfolding recordGood shaped every placeGood bare lineGood held inUse amount count sales allDifferent
+    unfolding recordGood shaped every placeGood bare lineGood held inUse amount count sales handshake allDifferent
     blank-good d k p =
         rw (le-ltb k (number h (Carnet 0)) (omega arith))
         (either (ltb k (number h (View 0))) _ _ refl
-        (either (ltb k (number h (Till 0))) _ _ refl (either (ltb k (number h (Line 0 0))) _ _ refl refl)))
+        (either (ltb k (number h (BenchView 0))) _ _ refl
+        (either (ltb k (number h (Till 0))) _ _ refl (either (ltb k (number h (Line 0 0))) _ _ refl refl))))
 
     desk-good : recordGood h ts 0 0 desk ≡ true
     unfolding recordGood shaped every placeGood deskGood held inUse amount count made filled

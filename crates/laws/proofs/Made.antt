@@ -6,7 +6,7 @@ use lib.ListN.{length-append, length-take, length-drop, length-set, length-repli
 use lib.Seq.{getD-set-same, getD-set-other, set-getD, drop-set-lt}
 use Rattle.rules.specs.Lists.{ℕ, _-_, true, List, _∷_, _++_, length, take, drop, getD, replicate, allZero}
 use Rattle.rules.specs.Hall.{mostHeld}
-use Rattle.rules.specs.Records.{words, inUse, amount, count, sales, cells, held, filled, made, withWord, withAmount}
+use Rattle.rules.specs.Records.{words, inUse, amount, count, sales, handshake, cells, held, filled, made, withWord, withAmount, withHandshake}
 use Rattle.rules.proofs.Stepping.{filled-held}
 use Rattle.rules.proofs.Words.{four-first}
 use Rattle.laws.proofs.Zeros.{zero-zeros}
@@ -49,6 +49,10 @@ module _ (a s : ℕ) (ts : List ℕ) where
   unfolding made
   made-sales = filled-sales 1 a (length ts) s ts
 
+  pub made-handshake : handshake (made a s ts) ≡ s
+  unfolding made filled handshake
+  made-handshake = refl
+
   pub made-held : held (made a s ts) ≡ ts
   unfolding made
   made-held = filled-held 1 a (length ts) s ts refl
@@ -75,6 +79,14 @@ module _ (w x : ℕ) (r : List ℕ) where
   unfolding withWord
   with-rest n l = drop-set-lt n r w x l
 
+  pub with-use : (0 ≡ w → ⊥) → inUse (withWord w x r) ≡ inUse r
+  unfolding inUse
+  with-use = with-other 0
+
+  pub with-count : (2 ≡ w → ⊥) → count (withWord w x r) ≡ count r
+  unfolding count
+  with-count = with-other 2
+
   pub with-held : w < 4 → (2 ≡ w → ⊥) → held (withWord w x r) ≡ held r
   unfolding held count
   with-held l ne = rw (with-other 2 ne, with-rest 4 l)
@@ -87,16 +99,14 @@ with-own w r = set-getD r w 0
 -- ---- another amount
 module _ (a : ℕ) (r : List ℕ) where
   pub amount-use : inUse (withAmount a r) ≡ inUse r
-  unfolding inUse
-  amount-use = with-other 1 a r 0 (λ q. omega arith)
+  amount-use = with-use 1 a r (λ q. omega arith)
 
   pub amount-is : 1 < length r → amount (withAmount a r) ≡ a
   unfolding amount
   amount-is l = with-here 1 a r l
 
   pub amount-count : count (withAmount a r) ≡ count r
-  unfolding count
-  amount-count = with-other 1 a r 2 (λ q. omega arith)
+  amount-count = with-count 1 a r (λ q. omega arith)
 
   pub amount-sales : sales (withAmount a r) ≡ sales r
   unfolding sales
@@ -104,6 +114,11 @@ module _ (a : ℕ) (r : List ℕ) where
 
   pub amount-held : held (withAmount a r) ≡ held r
   amount-held = with-held 1 a r (omega arith) (λ q. omega arith)
+
+-- ---- another handshake
+pub handshake-amount : (s : ℕ) (r : List ℕ) → amount (withHandshake s r) ≡ amount r
+unfolding amount
+handshake-amount s r = with-other 3 s r 1 (λ q. omega arith)
 
 -- a record that is zero past its first k cells is filled from its four words and those cells
 pub filled-is : (r : List ℕ) (k : ℕ) → length r ≡ words → k ≤ mostHeld → allZero (drop k (cells r)) ≡ true

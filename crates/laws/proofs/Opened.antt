@@ -8,7 +8,7 @@ use lib.Seq.{length-take-le, take-all}
 use Rattle.rules.specs.declared.Hall.{Hall}
 use Rattle.rules.specs.Lists.{ℕ, zero, suc, _+_, _*_, _-_, List, _++_, length, take, drop, replicate}
 use Rattle.rules.specs.Hall.{mostHeld, Line, number, records}
-use Rattle.rules.specs.Records.{words, inUse, amount, count, sales, filled, blockAt, recordAt}
+use Rattle.rules.specs.Records.{words, inUse, amount, count, sales, handshake, filled, blockAt, recordAt}
 use Rattle.rules.specs.Slips.{slipTokens, openedLine, openLines, openBook}
 use Rattle.rules.proofs.Tests.{below}
 use Rattle.laws.proofs.Blocks.{block-drop, block-zero, block-past, block-first, block-second}
@@ -30,6 +30,10 @@ module _ (ts r : List ℕ) where
   pub opened-sales : sales (openedLine ts r) ≡ sales r
   unfolding openedLine filled sales
   opened-sales = refl
+
+  pub opened-handshake : handshake (openedLine ts r) ≡ handshake r
+  unfolding openedLine filled sales handshake
+  opened-handshake = refl
 
   pub opened-long : length (openedLine ts r) ≡ words
   unfolding openedLine filled

@@ -21,7 +21,7 @@ unfolding makeEmpty
 emptied b e = sym (e .book-after) ∙ e .learnt .cells ∙ answer-granted _ _ _ (sym (e .learnt .number) ∙ e .granted)
 
 -- ---- a run
-ran : (f : Form) (ts b tape vs ss : List ℕ) (n : ℕ) (b′ vs′ ss′ : List ℕ) → Emptied b → RunCall f ts b tape vs ss n b′ vs′ ss′
+pub ran : (f : Form) (ts b tape vs ss : List ℕ) (n : ℕ) (b′ vs′ ss′ : List ℕ) → Emptied b → RunCall f ts b tape vs ss n b′ vs′ ss′
     → RunGives (run (formOf f) mainHall ts (emptyBook mainHall) tape vs ss) n b′ vs′ ss′
 ran f ts b tape vs ss n b′ vs′ ss′ e c =
     rw (sym (c .form), sym (c .list), sym (emptied b e), sym (c .book), sym (c .tape-lent), sym (c .verdicts), sym (c .seconds), sym (c .answered), sym (c .book-after), sym (c .verdicts-after), sym (c .seconds-after)) (c .learnt)
@@ -48,7 +48,7 @@ stepped : {f : Form} {ts b b′ : List ℕ} {e : Entry} {r : Reply} → StepCall
 stepped c =
     rw (sym (c .form), sym (c .list), sym (c .book), sym (c .entry), sym (c .answered), sym (c .book-after)) (c .learnt)
 
-all-stepped : {f : Form} {ts b b′ : List ℕ} {es : List Entry} {vs ss : List ℕ} → StepCalls f ts b es vs ss b′
+pub all-stepped : {f : Form} {ts b b′ : List ℕ} {es : List Entry} {vs ss : List ℕ} → StepCalls f ts b es vs ss b′
     → RunGives (steps (formOf f) mainHall ts b es) 0 b′ vs ss
 unfolding steps
 all-stepped done = record { answer = refl; verdicts = refl; seconds = refl; book = refl }

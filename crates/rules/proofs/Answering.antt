@@ -1,11 +1,11 @@
--- Answers: refused, the lent cells are as before; and a number given is one of the table's.
+-- Answers: refused, the lent cells are as before; a number given is one of the table's, and of those that apply the first by place.
 use mathlib.Core.Path.{_≡_, refl, sym, ap, _∙_}
 use mathlib.Core.Logic.{⊎-elim}
 use Prim.Native.Nat.{_≤_, _<_}
 use native.Mathlib.Omega.{arith}
-use borrow.Author.Tests.{eq-eqb, ne-eqb, ltb-true, lt-ltb}
-use Rattle.rules.specs.Lists.{ℕ, _+_, Bool, true, false, cond, _&&_, ltb, eqb, List, [], _∷_, _++_, occ, isIn}
-use Rattle.rules.proofs.Tests.{parts, and-right, same}
+use borrow.Author.Tests.{eqb-true, eq-eqb, ne-eqb, ltb-true, lt-ltb}
+use Rattle.rules.specs.Lists.{ℕ, suc, _+_, Bool, true, false, cond, _&&_, ltb, eqb, List, [], _∷_, _++_, occ, isIn, allDifferent, firstOf, placeOf}
+use Rattle.rules.proofs.Tests.{parts, and-left, and-right, same}
 use Rattle.rules.specs.Answers.{Rule, _⇐_, first, answer, Gives}
 
 module _ (rules : List Rule) (new old : List ℕ) where
@@ -87,58 +87,68 @@ first-refuses [] more r e n = absurd (n e)
 first-refuses ((k ⇐ true) ∷ rules) more r e n = e
 first-refuses ((k ⇐ false) ∷ rules) more r e n = first-refuses rules more r e n
 
--- ---- the lowest number
--- v is the lowest number whose test holds, and 0 where none does
-pub record Lowest (rules : List Rule) (v : ℕ) : Type 0 where
-  pub applies : (n : ℕ) → testOf n rules ≡ true → (testOf v rules ≡ true) × (v ≤ n)
+-- ---- the first by place
+-- of the numbers whose test holds, v stands first in the table; where none holds, v is 0
+pub record Foremost (rules : List Rule) (v : ℕ) : Type 0 where
+  pub applies : (n : ℕ) → testOf n rules ≡ true → (testOf v rules ≡ true) × (placeOf v (numbers rules) ≤ placeOf n (numbers rules))
   pub granted : ((n : ℕ) → testOf n rules ≡ false) → v ≡ 0
 
--- the numbers rise, from above a on
-abbrev pub rising : ℕ → List Rule → Bool
-rising a [] = true
-rising a ((n ⇐ test) ∷ rules) = ltb a n && rising n rules
+test-stands : (rules : List Rule) (n : ℕ) → testOf n rules ≡ true → 0 < occ n (numbers rules)
+unfolding occ
+test-stands [] n e = never false e refl
+test-stands ((m ⇐ test) ∷ rules) n e =
+    ⊎-elim
+    (λ (z : n ≡ m). rw (eq-eqb n m z) (omega arith))
+    (λ (z : n ≡ m → ⊥). let l : 0 < occ n (numbers rules) = test-stands rules n (rw (ne-eqb n m z) at e) in rw (ne-eqb n m z) (omega arith))
+    (same n m)
 
-at-least : (m : ℕ) (test : Bool) (rules : List Rule) (n : ℕ) → (testOf n rules ≡ true → m < n) → testOf n ((m ⇐ test) ∷ rules) ≡ true → m ≤ n
-at-least m test rules n later e =
-    ⊎-elim (λ (z : n ≡ m). omega arith) (λ (z : n ≡ m → ⊥). omega (arith, later (rw (ne-eqb n m z) at e))) (same n m)
+-- ---- a table whose numbers are all different, 0 among them, and its first line
+module _ (m : ℕ) (rules : List Rule) (w : allDifferent (m ∷ numbers rules) ≡ true) where
+  others : allDifferent (numbers rules) ≡ true
+  unfolding allDifferent
+  others = and-right (eqb (occ m (numbers rules)) 0) _ w
 
-above : (a : ℕ) (rules : List Rule) → rising a rules ≡ true → (n : ℕ) → testOf n rules ≡ true → a < n
-above a [] w n e = never false e refl
-above a ((m ⇐ test) ∷ rules) w n e =
-    let l : a < m = search parts in
-    omega (arith, at-least m test rules n (above m rules (and-right (ltb a m) (rising m rules) w) n) e)
+  unlike : (n : ℕ) → 0 < occ n (numbers rules) → n ≡ m → ⊥
+  unfolding allDifferent
+  unlike n l z =
+      let none : occ m (numbers rules) ≡ 0 = eqb-true _ _ (and-left _ (allDifferent (numbers rules)) w) in
+      omega (arith, ap (λ (i : ℕ). occ i (numbers rules)) z)
 
--- a line that doesn't apply changes nothing for the numbers of the others
-skipped : (m : ℕ) (rules : List Rule) → rising m rules ≡ true → (n : ℕ) → testOf n ((m ⇐ false) ∷ rules) ≡ testOf n rules
-skipped m rules w n = go (testOf n rules) refl
-  where
-    go : (t : Bool) → testOf n rules ≡ t → testOf n ((m ⇐ false) ∷ rules) ≡ testOf n rules
-    go true e = let l : m < n = above m rules w n e in rw (ne-eqb n m (λ z. omega arith))
-    go false e = none-of (eqb n m) (testOf n rules) e ∙ sym e
+  -- another number is one place further on
+  behind : (n : ℕ) → 0 < occ n (numbers rules) → placeOf n (m ∷ numbers rules) ≡ suc (placeOf n (numbers rules))
+  unfolding placeOf firstOf
+  behind n l = rw (ne-eqb n m (unlike n l))
+
+  -- a line that doesn't apply changes nothing for the tests of the others
+  skipped : (n : ℕ) → testOf n ((m ⇐ false) ∷ rules) ≡ testOf n rules
+  skipped n = go (testOf n rules) refl
+    where
+      go : (t : Bool) → testOf n rules ≡ t → testOf n ((m ⇐ false) ∷ rules) ≡ testOf n rules
+      go true e = rw (ne-eqb n m (unlike n (test-stands rules n e)))
+      go false e = none-of (eqb n m) (testOf n rules) e ∙ sym e
 
 -- a number given is one whose test holds
-pub first-holds : (a : ℕ) (rules : List Rule) → rising a rules ≡ true → (first rules ≡ 0 → ⊥) → testOf (first rules) rules ≡ true
+pub first-holds : (rules : List Rule) → allDifferent (numbers rules) ≡ true → (first rules ≡ 0 → ⊥) → testOf (first rules) rules ≡ true
 unfolding first
-first-holds a [] w n = absurd (n refl)
-first-holds a ((m ⇐ true) ∷ rules) w n = rw (eq-eqb m m refl)
-first-holds a ((m ⇐ false) ∷ rules) w n =
-    let later : rising m rules ≡ true = and-right (ltb a m) (rising m rules) w in
-    skipped m rules later (first rules) ∙ first-holds m rules later n
+first-holds [] w n = absurd (n refl)
+first-holds ((m ⇐ true) ∷ rules) w n = rw (eq-eqb m m refl)
+first-holds ((m ⇐ false) ∷ rules) w n = skipped m rules w (first rules) ∙ first-holds rules (others m rules w) n
 
-pub first-lowest : (a : ℕ) (rules : List Rule) → rising a rules ≡ true → Lowest rules (first rules)
-unfolding first
-first-lowest a [] w = record { applies = λ n e. never false e refl; granted = λ none. refl }
-first-lowest a ((m ⇐ true) ∷ rules) w =
+pub first-foremost : (rules : List Rule) → allDifferent (numbers rules) ≡ true → Foremost rules (first rules)
+unfolding first placeOf firstOf
+first-foremost [] w = record { applies = λ n e. never false e refl; granted = λ none. refl }
+first-foremost ((m ⇐ true) ∷ rules) w =
     let holds : testOf m ((m ⇐ true) ∷ rules) ≡ true = rw (eq-eqb m m refl) in
-    record {
-      applies = λ n e. (holds, at-least m true rules n (above m rules (and-right (ltb a m) (rising m rules) w) n) e);
-      granted = λ none. never _ holds (none m);
-    }
-first-lowest a ((m ⇐ false) ∷ rules) w =
-    let later : rising m rules ≡ true = and-right (ltb a m) (rising m rules) w in
-    let rest : Lowest rules (first rules) = first-lowest m rules later in
+    let front : placeOf m (m ∷ numbers rules) ≡ 0 = rw (eq-eqb m m refl) in
+    record { applies = λ n e. (holds, omega arith); granted = λ none. never _ holds (none m) }
+first-foremost ((m ⇐ false) ∷ rules) w =
+    let rest : Foremost rules (first rules) = first-foremost rules (others m rules w) in
     record {
       applies = λ n e.
-          let p = rest .applies n (sym (skipped m rules later n) ∙ e) in (skipped m rules later (first rules) ∙ p .0, p .1);
-      granted = λ none. rest .granted (λ n. sym (skipped m rules later n) ∙ none n);
+          let e′ : testOf n rules ≡ true = sym (skipped m rules w n) ∙ e in
+          let p = rest .applies n e′ in (
+            skipped m rules w (first rules) ∙ p .0,
+            omega (arith, p .1, behind m rules w n (test-stands rules n e′), behind m rules w (first rules) (test-stands rules (first rules) (p .0))),
+          );
+      granted = λ none. rest .granted (λ n. sym (skipped m rules w n) ∙ none n);
     }

@@ -1,11 +1,11 @@
 -- The second number of a step: with a 15, which only a clear gets, the place of the first dead token; with every other verdict 0.
 use mathlib.Core.Path.{_≡_, refl, sym, ap, _∙_}
-use Prim.Native.Nat.{_<_}
+use Prim.Native.Nat.{_≤_, _<_}
 use native.Mathlib.Omega.{arith}
 use borrow.Author.Tests.{eqb-true, ltb-true, eq-eqb, ne-eqb}
 use Rattle.rules.specs.declared.Hall.{Hall}
 use Rattle.rules.specs.declared.Entry.{Entry}
-use Rattle.rules.specs.Lists.{ℕ, Bool, true, false, not, _&&_, List, length, ltb}
+use Rattle.rules.specs.Lists.{ℕ, Bool, true, false, not, _&&_, List, length, ltb, occ, allDifferent, firstOf, placeOf}
 use Rattle.rules.specs.Records.{held}
 use Rattle.rules.specs.Tape.{Clear, kindOf, is, inHall, entryRules}
 use Rattle.rules.specs.Form.{Form}
@@ -13,8 +13,8 @@ use Rattle.rules.specs.Steps.{theView}
 use Rattle.rules.specs.Answers.{Answer, Gives}
 use Rattle.rules.specs.Verdicts.{waiting, deadAt, beside, StepGives, table, verdict, second, step}
 use Rattle.rules.proofs.Tests.{and-left, and-right}
-use Rattle.rules.proofs.Answering.{testOf, first-holds}
-use Rattle.rules.proofs.Stepping.{step-verdict, verdict-lowest}
+use Rattle.rules.proofs.Answering.{numbers, testOf, first-holds}
+use Rattle.rules.proofs.Stepping.{step-verdict, verdict-foremost}
 use Rattle.rules.proofs.Searching.{Absent, first-absent}
 
 module _ (f : Form) (h : Hall) (ts b : List ℕ) (e : Entry) where
@@ -33,20 +33,23 @@ module _ (f : Form) (h : Hall) (ts b : List ℕ) (e : Entry) where
   -- ---- of a 15
   module _ (v : verdict f h ts b e ≡ 15) where
     applies : is e Clear && ltb (deadAt f h ts b e) (length (waiting f h ts b e)) ≡ true
-    unfolding verdict table entryRules
-    applies = ap (λ (n : ℕ). testOf n (table f h ts b e)) (sym v) ∙ first-holds 0 (table f h ts b e) refl (λ z. omega (arith, v, z))
+    unfolding verdict table entryRules allDifferent occ
+    applies = ap (λ (n : ℕ). testOf n (table f h ts b e)) (sym v) ∙ first-holds (table f h ts b e) refl (λ z. omega (arith, v, z))
 
     pub dead-clear : e .kind ≡ kindOf Clear
     dead-clear = eqb-true _ _ (and-left (is e Clear) _ applies)
 
-    -- its bench and its customer are numbers of the hall: else a 3 came first
+    -- its bench and its customer are numbers of the hall: else 3, which stands before, would be the verdict
     pub dead-placed : inHall h e ≡ true
-    unfolding table entryRules
+    unfolding table entryRules placeOf firstOf
     dead-placed = go (inHall h e) refl
       where
         go : (t : Bool) → inHall h e ≡ t → inHall h e ≡ true
         go true q = q
-        go false q = absurd (omega (arith, v, verdict-lowest f h ts b e .applies 3 (ap not q) .1))
+        go false q =
+            let at : placeOf (verdict f h ts b e) (numbers (table f h ts b e)) ≡ 15 = ap (λ (n : ℕ). placeOf n (numbers (table f h ts b e))) v in
+            let before : placeOf (verdict f h ts b e) (numbers (table f h ts b e)) ≤ 2 = verdict-foremost f h ts b e .applies 3 (ap not q) .1 in
+            absurd (omega arith)
 
     pub dead-inside : deadAt f h ts b e < length (waiting f h ts b e)
     dead-inside = ltb-true _ _ (and-right (is e Clear) _ applies)

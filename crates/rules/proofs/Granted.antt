@@ -6,11 +6,11 @@ use native.Mathlib.Omega.{arith}
 use borrow.Author.Tests.{not-false, eqb-true, eqb-false, eq-eqb, le-leb, ltb-true, ltb-false, lt-ltb}
 use Rattle.rules.specs.declared.Hall.{Hall}
 use Rattle.rules.specs.declared.Entry.{Entry}
-use Rattle.rules.specs.Lists.{ℕ, zero, suc, _+_, min, Bool, true, false, not, _&&_, _||_, leb, ltb, eqb, List, every, isIn}
+use Rattle.rules.specs.Lists.{ℕ, _+_, min, Bool, true, false, not, _&&_, _||_, leb, ltb, eqb, List, every, isIn}
 use Rattle.rules.specs.Hall.{mostHeld, mostSales, mostBudget}
-use Rattle.rules.specs.Records.{inUse, amount, count, sales, held, recordAt}
+use Rattle.rules.specs.Records.{inUse, amount, count, sales, handshake, held, recordAt}
 use Rattle.rules.specs.Sound.{total, mostTotal}
-use Rattle.rules.specs.Tape.{JoinCustomer, JoinBench, OpenLine, Update, Stock, Sell, Clear, TopUp, kindOf, is, usesBench, usesCustomer, wellFormed, inHall, entryRules}
+use Rattle.rules.specs.Tape.{JoinCustomer, JoinBench, OpenLine, Update, Stock, Sell, DeskAuthenticates, Clear, TopUp, kindOf, is, usesBench, usesCustomer, wellFormed, inHall, entryRules}
 use Rattle.rules.specs.Form.{Form}
 use Rattle.rules.specs.Steps.{left, theCarnet, theView, theBenchView, theTill, theLine}
 use Rattle.rules.specs.Verdicts.{used, waiting, table, verdict}
@@ -101,6 +101,17 @@ module _ (f : Form) (h : Hall) (ts b : List ℕ) (e : Entry) (v : verdict f h ts
   pub has-line : is e Sell || is e Clear ≡ true → inUse (theLine h b e) ≡ 1
   unfolding table entryRules
   has-line k = eqb-true _ _ (not-false _ (and-false _ _ (tests 6) k))
+
+  -- 17
+  pub desk-handshake : e .kind ≡ kindOf DeskAuthenticates → handshake (theBenchView h b e) ≡ 1
+  unfolding table entryRules
+  desk-handshake k = eqb-true _ _ (not-false _ (and-false _ _ (or-left _ _ (tests 17)) (eq-eqb _ _ k)))
+
+  pub clear-handshake : e .kind ≡ kindOf Clear → handshake (theBenchView h b e) ≡ 2
+  unfolding table entryRules
+  clear-handshake k =
+      eqb-true _ _ (not-false _ (and-false _ _
+      (or-right (is e DeskAuthenticates && not (eqb (handshake (theBenchView h b e)) 1)) _ (tests 17)) (eq-eqb _ _ k)))
 
   -- 7
   pub join-budget : e .kind ≡ kindOf JoinCustomer → e .amount ≤ mostBudget

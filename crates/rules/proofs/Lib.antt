@@ -15,3 +15,4 @@ pub mod Dead
 pub mod Named
 pub mod Spent
 pub mod Determined
+pub mod Shaken

@@ -5,7 +5,7 @@ use Prim.Native.Nat.{_≤_, _<_}
 use native.Mathlib.Omega.{arith}
 use lib.ListN.{length-append, length-take}
 use lib.Seq.{take-at}
-use Rattle.rules.specs.Lists.{ℕ, suc, _+_, _-_, min, true, List, [], _∷_, _++_, length, take, getD, replicate, range, isIn}
+use Rattle.rules.specs.Lists.{ℕ, suc, _+_, _-_, min, true, List, [], _∷_, _++_, length, take, getD, replicate, range, occ, isIn, allDifferent}
 use Rattle.rules.specs.Hall.{Hall, mostHeld}
 use Rattle.rules.specs.Answers.{answer}
 use Rattle.rules.specs.Records.{amount, count, sales, held, filled, recordAt}
@@ -15,7 +15,7 @@ use Rattle.rules.specs.Form.{Form, plain}
 use Rattle.rules.specs.Steps.{putAll, theCarnet, theView, theLine, dealing, updating, soldLine, changes, effect}
 use Rattle.rules.specs.Verdicts.{table, verdict, step}
 use Rattle.rules.proofs.Tests.{same}
-use Rattle.rules.proofs.Answering.{answer-granted, answer-refused, Lowest, first-lowest, numbers, first-listed}
+use Rattle.rules.proofs.Answering.{answer-granted, answer-refused, Foremost, first-foremost, numbers, first-listed}
 
 module _ (f : Form) (h : Hall) (ts b : List ℕ) (e : Entry) where
   pub step-granted : step f h ts b e .number ≡ 0 → step f h ts b e .cells ≡ effect f h ts b e
@@ -43,17 +43,17 @@ module _ (f : Form) (h : Hall) (ts b : List ℕ) (e : Entry) where
       (λ (z : step f h ts b e .number ≡ 0 → ⊥). subst P (sym (step-refused z)) stays)
       (same (step f h ts b e .number) 0)
 
-  -- the verdict is the lowest number of the table whose test holds, and 0 where none does
-  pub verdict-lowest : Lowest (table f h ts b e) (verdict f h ts b e)
-  unfolding verdict table entryRules
-  verdict-lowest = first-lowest 0 (table f h ts b e) refl
+  -- of the table's numbers whose test holds the verdict is the one that stands first, and 0 where none does
+  pub verdict-foremost : Foremost (table f h ts b e) (verdict f h ts b e)
+  unfolding verdict table entryRules allDifferent occ
+  verdict-foremost = first-foremost (table f h ts b e) refl
 
-  -- it is a number of the table, or 0; and these are the table's numbers
+  -- it is a number of the table, or 0; and these are the table's numbers, by their place
   pub verdict-listed : isIn (verdict f h ts b e) (numbers (table f h ts b e)) ≡ true
   unfolding verdict
   verdict-listed = first-listed (table f h ts b e)
 
-  pub table-numbers : numbers (table f h ts b e) ≡ range 1 15 ++ (0 ∷ [])
+  pub table-numbers : numbers (table f h ts b e) ≡ range 1 6 ++ (17 ∷ range 7 9) ++ (0 ∷ [])
   unfolding table entryRules range
   table-numbers = refl
 

@@ -5,7 +5,7 @@ use Rattle.rules.specs.Hall.{mostHeld}
 abbrev pub words : ℕ
 words = 36
 
--- ---- the words of a record: in use, amount, count of tokens, count of sales, cells
+-- ---- the words of a record: in use, amount, count of tokens, one that goes by the place, cells
 unfoldable pub inUse : List ℕ → ℕ
 inUse r = getD r 0 0
 
@@ -15,8 +15,13 @@ amount r = getD r 1 0
 unfoldable pub count : List ℕ → ℕ
 count r = getD r 2 0
 
+-- word 3: in a line the count of sales
 unfoldable pub sales : List ℕ → ℕ
 sales r = getD r 3 0
+
+-- and in the desk's view of a bench how far the handshake has come: 1, the bench has authenticated; 2, and then the desk; else 0
+unfoldable pub handshake : List ℕ → ℕ
+handshake r = getD r 3 0
 
 abbrev pub cells : List ℕ → List ℕ
 cells r = drop 4 r
@@ -29,16 +34,19 @@ held r = take (count r) (cells r)
 unfoldable pub filled : ℕ → ℕ → ℕ → ℕ → List ℕ → List ℕ
 filled u a n s cs = u ∷ a ∷ n ∷ s ∷ (cs ++ replicate (mostHeld - length cs) 0)
 
--- a record in use, of an amount, sales and tokens
+-- a record in use, of an amount, word 3 and tokens
 unfoldable pub made : ℕ → ℕ → List ℕ → List ℕ
 made a s ts = filled 1 a (length ts) s ts
 
--- a record with one word changed, and all else as it stands; with another amount
+-- a record with one word changed, and all else as it stands; with another amount, another handshake
 unfoldable pub withWord : ℕ → ℕ → List ℕ → List ℕ
 withWord w x r = set r w x
 
 abbrev pub withAmount : ℕ → List ℕ → List ℕ
 withAmount a r = withWord 1 a r
+
+abbrev pub withHandshake : ℕ → List ℕ → List ℕ
+withHandshake s r = withWord 3 s r
 
 -- ---- a book: its block k of n words, and the book with another block k
 unfoldable pub blockAt : ℕ → ℕ → List ℕ → List ℕ

@@ -1,7 +1,7 @@
 -- The token list; when a book is sound over it; the empty book. A test looks a record up by its number, `at k`.
 use Rattle.rules.specs.Lists.{ℕ, _+_, _*_, _-_, min, Bool, cond, _&&_, _||_, leb, ltb, eqb, List, [], _++_, length, take, drop, replicate, range, every, allZero, isIn, allDifferent, sumOf, joined}
 use Rattle.rules.specs.Hall.{Hall, mostTokens, mostHeld, mostSales, mostBudget, Place, Carnet, View, BenchView, Till, Line, number, records, spendable, customerViews, views}
-use Rattle.rules.specs.Records.{words, inUse, amount, count, sales, cells, held, made, rows}
+use Rattle.rules.specs.Records.{words, inUse, amount, count, sales, handshake, cells, held, made, rows}
 
 -- at most 4,096 tokens, all different
 unfoldable pub goodList : List ℕ → Bool
@@ -31,13 +31,15 @@ lineGood r =
     eqb (amount r) 0
     && leb (sales r) mostSales && leb (sales r) (count r) && eqb (min (sales r) 1) (min (count r) 1)
 
--- what record k is asked for its place: the desk, a carnet, a desk's view, a till (no token twice in it), a line
+-- what record k is asked for its place: the desk, a carnet, the desk's view of a customer and of a bench, a till (no token twice
+-- in it), a line
 unfoldable pub placeGood : Hall → List ℕ → ℕ → List ℕ → Bool
 placeGood h ts k r =
     cond (ltb k (number h (Carnet 0))) (deskGood ts r)
     (cond (ltb k (number h (View 0))) (bare r)
-    (cond (ltb k (number h (Till 0))) (eqb (sales r) 0)
-    (cond (ltb k (number h (Line 0 0))) (bare r && allDifferent (held r)) (lineGood r))))
+    (cond (ltb k (number h (BenchView 0))) (eqb (sales r) 0)
+    (cond (ltb k (number h (Till 0))) (leb (handshake r) 2)
+    (cond (ltb k (number h (Line 0 0))) (bare r && allDifferent (held r)) (lineGood r)))))
 
 -- what record k is asked by itself, with d tokens dealt: every token held is among them
 unfoldable pub recordGood : Hall → List ℕ → ℕ → ℕ → List ℕ → Bool

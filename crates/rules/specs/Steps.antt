@@ -1,7 +1,7 @@
 -- Steps when granted: the records that a step writes, in order, each made from the book before the step.
 use Rattle.rules.specs.Lists.{ℕ, _+_, _-_, min, List, [], _∷_, _++_, length, take, drop, getD, without}
 use Rattle.rules.specs.Hall.{Hall, Place, Desk, Carnet, View, BenchView, Till, Line, number}
-use Rattle.rules.specs.Records.{amount, count, sales, held, filled, made, withAmount, recordAt, put}
+use Rattle.rules.specs.Records.{amount, count, sales, held, filled, made, withAmount, withHandshake, recordAt, put}
 use Rattle.rules.specs.Tape.{Entry}
 use Rattle.rules.specs.Form.{Form}
 
@@ -25,11 +25,11 @@ abbrev pub fresh : List ℕ → List ℕ → ℕ → List ℕ
 fresh ts b n = take n (drop (dealt b) ts)
 
 -- ---- a party has a record of its own, and the desk has a view of it
--- both come into use without tokens, the view with an amount
+-- both come into use without tokens, the view with an amount; no handshake has begun
 unfoldable pub joining : Place → Place → ℕ → List Change
 joining own view a = (own ≔ made 0 0 []) ∷ (view ≔ made a 0 []) ∷ []
 
--- n fresh tokens replace what both held, and the desk counts them as dealt; the view's amount becomes a
+-- n fresh tokens replace what both held, and the desk counts them as dealt; the view's amount becomes a, and a handshake is void
 unfoldable pub dealing : List ℕ → List ℕ → Place → Place → ℕ → ℕ → List Change
 dealing ts b own view a n =
     (own ≔ made 0 0 (fresh ts b n))
@@ -77,18 +77,19 @@ module _ (h : Hall) (b : List ℕ) (e : Entry) where
       ∷ (Line (e .bench) (e .customer) ≔ soldLine f)
       ∷ []
 
-  -- a token is used up, at the bench and at the desk
-  unfoldable pub authenticating : List Change
-  authenticating =
+  -- a token is used up, at the bench and at the desk, and the handshake comes to s
+  unfoldable pub authenticating : ℕ → List Change
+  authenticating s =
       (Till (e .bench) ≔ made 0 0 (drop 1 (held theTill)))
-      ∷ (BenchView (e .bench) ≔ made (amount theBenchView) 0 (drop 1 (held theBenchView)))
+      ∷ (BenchView (e .bench) ≔ made (amount theBenchView) s (drop 1 (held theBenchView)))
       ∷ []
 
-  -- the tokens that are gone are struck from the view, the bench is paid for each of them, and the line holds none
+  -- the tokens that are gone are struck from the view, the bench is paid for each of them, its handshake is used up, and the
+  -- line holds none
   unfoldable pub settling : List ℕ → List Change
   settling gone =
       (View (e .customer) ≔ made (amount theView) 0 (without gone (held theView)))
-      ∷ (BenchView (e .bench) ≔ withAmount (amount theBenchView + length gone) theBenchView)
+      ∷ (BenchView (e .bench) ≔ withHandshake 0 (withAmount (amount theBenchView + length gone) theBenchView))
       ∷ (Line (e .bench) (e .customer) ≔ made 0 0 [])
       ∷ []
 
@@ -111,8 +112,8 @@ module _ (h : Hall) (b : List ℕ) (e : Entry) where
       ∷ updating ts
       ∷ stocking ts
       ∷ selling f
-      ∷ authenticating
-      ∷ authenticating
+      ∷ authenticating 1
+      ∷ authenticating 2
       ∷ clearing f ts
       ∷ toppingUp
       ∷ [])

@@ -1,8 +1,8 @@
--- Verdict numbers: the table, in its order; a step, and the second number that it answers; a run over a whole tape.
+-- Verdict numbers: the table, whose order decides; a step, and the second number that it answers; a run over a whole tape.
 use Rattle.rules.specs.Lists.{_≡_, ℕ, _+_, _*_, Bool, cond, not, _&&_, _||_, leb, ltb, eqb, List, [], _∷_, _++_, length, getD, firstAbsent}
 use Rattle.rules.specs.Hall.{Hall, mostHeld, mostSales, mostBudget}
 use Rattle.rules.specs.Answers.{Rule, _⇐_, first, Answer, answer}
-use Rattle.rules.specs.Records.{inUse, amount, count, sales, cells, held, recordAt}
+use Rattle.rules.specs.Records.{inUse, amount, count, sales, handshake, cells, held, recordAt}
 use Rattle.rules.specs.Sound.{total, mostTotal}
 use Rattle.rules.specs.Tape.{Entry, JoinCustomer, JoinBench, OpenLine, Update, Stock, Sell, BenchAuthenticates, DeskAuthenticates, Clear, TopUp, kindOf, is, usesBench, usesCustomer, entryRules, entries}
 use Rattle.rules.specs.Form.{Form}
@@ -39,6 +39,7 @@ module _ (f : Form) (h : Hall) (ts b : List ℕ) (e : Entry) where
   abbrev pub deadAt : ℕ
   deadAt = firstAbsent (held (theView h b e)) waiting
 
+  -- the first of these that applies is the verdict, by its place and not by its number
   -- 2 and 3 are those of the tape record by itself
   unfoldable pub table : List Rule
   table =
@@ -55,6 +56,7 @@ module _ (f : Form) (h : Hall) (ts b : List ℕ) (e : Entry) where
       ∷ (5
       ⇐ leb (kindOf OpenLine) (e .kind) && (usesBench (e .kind) && not (used benchView) || usesCustomer (e .kind) && not (used view)))
       ∷ (6 ⇐ (is e Sell || is e Clear) && not (used line))
+      ∷ (17 ⇐ is e DeskAuthenticates && not (eqb (handshake benchView) 1) || is e Clear && not (eqb (handshake benchView) 2))
       ∷ (7
       ⇐ is e JoinCustomer && ltb mostBudget n || is e Stock && ltb mostHeld n || is e TopUp && ltb (mostTotal h at) (total h at + n))
       ∷ (8 ⇐ is e Update && ltb (amount view) n)

@@ -98,7 +98,7 @@ fn is_line(rec: &[u32]) -> bool
     searching::smaller(sales, 1) == searching::smaller(count, 1)
 }
 
-// What record k is asked for its place: the desk, a carnet, a desk's view, a till, a line.
+// What record k is asked for its place: the desk, a carnet, the desk's view of a customer and of a bench, a till, a line.
 fn fits_place(h: Hall, list: &[u32], k: usize, rec: &[u32]) -> bool
     requires { ⌜ (length (now rec) ≡ words) × (h .customers ≤ 64) × (h .benches ≤ 64) ⌝ }
     ensures { λ r. ⌜ r ≡ placeGood h (now (list .entry)) k (now (rec .entry)) ⌝ }
@@ -109,8 +109,11 @@ fn fits_place(h: Hall, list: &[u32], k: usize, rec: &[u32]) -> bool
     if k < book::view(h, 0) {
         return is_bare(rec);
     }
-    if k < book::till(h, 0) {
+    if k < book::bench_view(h, 0) {
         return book::sales(rec) == 0;
+    }
+    if k < book::till(h, 0) {
+        return book::handshake(rec) <= 2;
     }
     if k < book::line(h, 0, 0) {
         return is_till(rec);

@@ -1,13 +1,12 @@
 -- What a kind's function answers: a refusal leaves the book, and where the checks pass the book is the changed one. Words that
 -- were read are the words of the records.
-use mathlib.Core.Path.{_≡_, sym, ap, _∙_}
-use lib.Seq.{getD-drop}
+use mathlib.Core.Path.{_≡_, ap, _∙_}
 use Rattle.rules.specs.declared.Hall.{Hall}
 use Rattle.rules.specs.declared.Entry.{Entry}
-use Rattle.rules.specs.Lists.{ℕ, _+_, List, [], drop, getD}
-use Rattle.rules.specs.Hall.{Place, View, BenchView, Till, number}
-use Rattle.rules.specs.Records.{amount, cells, held, made, withAmount, withWord, recordAt, put}
-use Rattle.rules.specs.Steps.{putAll, dealt, fresh, joining, dealing, authenticating, toppingUp}
+use Rattle.rules.specs.Lists.{ℕ, _+_, List, [], getD}
+use Rattle.rules.specs.Hall.{Place, View, number}
+use Rattle.rules.specs.Records.{amount, made, withAmount, withWord, recordAt, put}
+use Rattle.rules.specs.Steps.{putAll, dealt, fresh, joining, dealing, toppingUp}
 use Rattle.rules.specs.declared.Reply.{Reply}
 use Rattle.rules.specs.Verdicts.{Stepped, StepGives}
 use Rattle.steps.specs.Replies.{alone}
@@ -21,10 +20,6 @@ as-alone e g = rw e g
 pub of-words : (f : ℕ → ℕ → ℕ → ℕ → ℕ → ℕ) {x a a′ b b′ c c′ d d′ e e′ : ℕ}
     → x ≡ f a b c d e → a ≡ a′ → b ≡ b′ → c ≡ c′ → d ≡ d′ → e ≡ e′ → x ≡ f a′ b′ c′ d′ e′
 of-words f y p q r s t = y ∙ rw (p, q, r, s, t)
-
--- a record's fifth word is its first cell
-pub first-cell : (r : List ℕ) {x : ℕ} → x ≡ getD r 4 0 → x ≡ getD (cells r) 0 0
-first-cell r e = e ∙ sym (getD-drop 4 r 0 0)
 
 -- ---- at the numbers found for places
 -- a word is read
@@ -43,13 +38,6 @@ module _ (h : Hall) (b : List ℕ) (own view : Place) {k j : ℕ} (p : k ≡ num
       → after ≡ putAll h (dealing ts b own view a′ n′) b
   unfolding dealing putAll
   as-dealt ts r s e = e ∙ rw (p, q, r, s)
-
--- a bench's till and view lose their first token
-pub as-used-up : (h : Hall) (b : List ℕ) (e : Entry) {k j : ℕ} → k ≡ number h (Till (e .bench)) → j ≡ number h (BenchView (e .bench)) → {after : List ℕ}
-    → after ≡ put j (made (amount (recordAt j b)) 0 (drop 1 (held (recordAt j b)))) (put k (made 0 0 (drop 1 (held (recordAt k b)))) b)
-    → after ≡ putAll h (authenticating h b e) b
-unfolding authenticating putAll
-as-used-up h b e p q r = r ∙ rw (p, q)
 
 -- a budget that was read is raised
 pub as-raised : (h : Hall) (b : List ℕ) (e : Entry) {j a : ℕ} → j ≡ number h (View (e .customer)) → a ≡ getD (recordAt j b) 1 0 → {after : List ℕ}

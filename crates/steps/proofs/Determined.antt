@@ -9,7 +9,6 @@ use Rattle.steps.proofs.join_bench.Reads as join-bench-call
 use Rattle.steps.proofs.open_line.Reads as open-line-call
 use Rattle.steps.proofs.update.Reads as update-call
 use Rattle.steps.proofs.stock.Reads as stock-call
-use Rattle.steps.proofs.authenticate.Reads as authenticate-call
 use Rattle.steps.proofs.top_up.Reads as top-up-call
 
 alone-determined : (κs : _) (a : _) → Determined (alone-call.Learnt κs a) (λ z e. z)
@@ -29,9 +28,6 @@ update-determined κs a = determined _ _ _ (λ z e p. both (p .number) (p .cells
 
 stock-determined : (κs : _) (a : _) → Determined {O = ℕ × List ℕ} (stock-call.Learnt κs a) (λ z e. (z, e .1 .1 .0 .now))
 stock-determined κs a = determined _ _ _ (λ z e p. both (p .number) (p .cells))
-
-authenticate-determined : (κs : _) (a : _) → Determined {O = ℕ × List ℕ} (authenticate-call.Learnt κs a) (λ z e. (z, e .1 .0 .now))
-authenticate-determined κs a = determined _ _ _ (λ z e p. both (p .number) (p .cells))
 
 top-up-determined : (κs : _) (a : _) → Determined {O = ℕ × List ℕ} (top-up-call.Learnt κs a) (λ z e. (z, e .1 .0 .now))
 top-up-determined κs a = determined _ _ _ (λ z e p. both (p .number) (p .cells))

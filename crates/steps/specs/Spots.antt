@@ -5,8 +5,8 @@ use Rattle.rules.specs.declared.Hall.{Hall}
 use Rattle.rules.specs.declared.Entry.{Entry}
 use Rattle.rules.specs.Hall.{Carnet, View, BenchView, Line, number}
 use Rattle.rules.specs.Answers.{Rule}
-use Rattle.rules.specs.Records.{words, inUse, count, sales, recordAt}
-use Rattle.kinds.specs.Chains.{lineRules, saleRules}
+use Rattle.rules.specs.Records.{words, inUse, count, sales, handshake, recordAt}
+use Rattle.kinds.specs.Chains.{lineRules, saleRules, shakenRules}
 use Rattle.steps.specs.declared.sales.Spots.{Spots}
 
 abbrev pub spotsOf : Hall → Entry → Spots
@@ -26,10 +26,13 @@ module _ (b : List ℕ) (at : Spots) where
     pub bench : words * at .bench + words ≤ length b
     pub line : words * at .line + words ≤ length b
 
-  -- `knownLine`, and the whole chain of a sale of n
+  -- `knownLine`, the whole chain of a sale of n, and that of a clear up to its tokens
   unfoldable pub knownAt : List Rule
   knownAt = lineRules (inUse (recordAt (at .bench) b)) (inUse (recordAt (at .view) b)) (inUse (recordAt (at .line) b))
 
   unfoldable pub saleAt : ℕ → List Rule
   saleAt n =
       knownAt ++ saleRules (count (recordAt (at .carnet) b)) (count (recordAt (at .line) b)) (sales (recordAt (at .line) b)) n
+
+  unfoldable pub shakenAt : List Rule
+  shakenAt = knownAt ++ shakenRules (handshake (recordAt (at .bench) b))

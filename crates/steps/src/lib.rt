@@ -1,18 +1,17 @@
 // A step, one kind at a time: the kind's checks in the table's order and, where they let it pass, what it changes.
 // Inner, all of them: the step has found the book sound and the record well formed, and calls the function of its kind.
 ghost use mathlib.Core.Path.{_≡_};
-ghost use mathlib.Core.Bool.{true};
 ghost use Prim.Native.Nat.{_*_, _≤_};
 ghost use lib.ListN.{length};
 ghost use Rattle.rules.specs.Answers.{Gives};
 ghost use Rattle.rules.specs.Hall.{mostBudget};
 ghost use Rattle.rules.specs.Records.{words, recordAt};
 ghost use Rattle.rules.specs.Sound.{mostTotal};
-ghost use Rattle.rules.specs.Tape.{usesBench};
 ghost use Rattle.rules.specs.Steps.{left};
-ghost use Rattle.kinds.specs.Kinds.{joinCustomer, joinBench, openLine, update, stock, authenticate, topUp, Placed, Listed};
+ghost use Rattle.kinds.specs.Kinds.{joinCustomer, joinBench, openLine, update, stock, topUp, Placed, Listed};
 ghost use Rattle.steps.specs.Replies.{alone};
 
+pub mod handshake;
 pub mod sales;
 
 use book::writing;
@@ -110,7 +109,7 @@ pub fn update(h: Hall, tokens: &[u32], book: &mut [u32], e: Entry) -> u8
     0
 }
 
-// As many as are asked for, or what the list still has.
+// As many as are asked for, or what the list still has. A handshake is void from then on.
 pub fn stock(h: Hall, tokens: &[u32], book: &mut [u32], e: Entry) -> u8
     requires { ⌜ Placed h (now book) e 5 × Listed (now tokens) (now book) ⌝ }
     ensures { λ r. ⌜ Gives (stock h (now (book .entry)) e (now (tokens .entry))) r (now (book .exit)) ⌝ }
@@ -126,28 +125,6 @@ pub fn stock(h: Hall, tokens: &[u32], book: &mut [u32], e: Entry) -> u8
     }
     let n = searching::smaller(e.amount as usize, left);
     changes::deal(tokens, book, own, view, balance, n);
-    0
-}
-
-// ---- a bench and the desk compare their first tokens
-
-// Either of the two may ask.
-pub fn authenticate(h: Hall, book: &mut [u32], e: Entry) -> u8
-    requires { ⌜ Placed h (now book) e (e .kind) × (usesBench (e .kind) ≡ true) ⌝ }
-    ensures { λ r. ⌜ Gives (authenticate h (now (book .entry)) e) r (now (book .exit)) ⌝ }
-{
-    let till = book::till(h, e.bench);
-    let view = book::bench_view(h, e.bench);
-    let used = book::word_of(book, view, 0);
-    let count = book::word_of(book, till, 2);
-    let seen = book::word_of(book, view, 2);
-    let mine = book::word_of(book, till, 4);
-    let theirs = book::word_of(book, view, 4);
-    let refused = checks::authenticate(used, count, seen, mine, theirs);
-    if refused != 0 {
-        return refused;
-    }
-    changes::use_up(book, till, view);
     0
 }
 

@@ -6,7 +6,7 @@ ghost use Rattle.rules.specs.Answers.{first, Gives};
 ghost use Rattle.rules.specs.Verdicts.{StepGives};
 ghost use Rattle.book.specs.Forms.{formOf};
 ghost use Rattle.kinds.specs.Kinds.{sell, clear, numbered, Placed, Passed};
-ghost use Rattle.steps.specs.Spots.{spotsOf, Stand, knownAt, saleAt};
+ghost use Rattle.steps.specs.Spots.{spotsOf, Stand, knownAt, saleAt, shakenAt};
 use super::alone;
 use book::forms::Form;
 use changes::lines;
@@ -67,6 +67,19 @@ fn judge_sale(book: &[u32], at: Spots, n: u32) -> u8
     sale
 }
 
+// For a clear, whether bench, customer and line are known, and then whether bench and desk have shaken hands.
+fn judge_handshake(book: &[u32], at: Spots) -> u8
+    requires { ⌜ Stand (now book) at ⌝ }
+    ensures { λ r. ⌜ r ≡ first (shakenAt (now (book .entry)) at) ⌝ }
+{
+    let refused = known_line(book, at);
+    let shaken = checks::shaken(book::word_of(book, at.bench, 3));
+    if refused != 0 {
+        return refused;
+    }
+    shaken
+}
+
 // ---- the kinds
 
 // The list is what the book is sound over: nothing of it is read.
@@ -83,14 +96,14 @@ pub fn sell(form: Form, h: Hall, tokens: &[u32], book: &mut [u32], e: Entry) -> 
     0
 }
 
-// Where the line's tokens all live in the customer's view, they are struck from it, and the bench is paid. Else the reply says
-// which is the first that doesn't.
+// Where the line's tokens all live in the customer's view, they are struck from it, the bench is paid, and its handshake is used
+// up. Else the reply says which is the first that doesn't.
 pub fn clear(form: Form, h: Hall, tokens: &[u32], book: &mut [u32], e: Entry) -> Reply
     requires { ⌜ Placed h (now book) e 9 × Passed (formOf form) h (now tokens) (now book) e ⌝ }
     ensures { λ r. ⌜ StepGives (numbered (formOf form) h (now (tokens .entry)) (now (book .entry)) e (clear h (now (book .entry)) e (formOf form) (now (tokens .entry)))) r (now (book .exit)) ⌝ }
 {
     let at = find(h, e);
-    let refused = known_line(book, at);
+    let refused = judge_handshake(book, at);
     if refused != 0 {
         return alone(refused);
     }

@@ -53,7 +53,7 @@ pub struct Entry {
     pub amount: u32,
 }
 
-/// Why something was refused: a number from 1 to 16, and with a 15 which token is dead.
+/// Why something was refused: a number from 1 to 17, and with a 15 which token is dead.
 #[derive(Clone, Copy, Debug, PartialEq, Eq)]
 pub struct Refused {
     number: NonZeroU8,
@@ -102,8 +102,8 @@ pub fn is_sound(form: Form, tokens: &[u32], book: &[u32]) -> bool {
     unsafe { asked(tokens.as_ptr(), tokens.len(), book.as_ptr(), book.len()) == 0 }
 }
 
-/// Does one step, or refuses it with 1 to 15; [`Refused::dead_token`] goes with a 15. It asks first whether the book is
-/// sound, and refuses with 1 if it isn't: for many steps that is dear, and [`run`] asks once.
+/// Does one step, or refuses it with 1 to 15 or 17, handshake missing; [`Refused::dead_token`] goes with a 15. It asks first
+/// whether the book is sound, and refuses with 1 if it isn't: for many steps that is dear, and [`run`] asks once.
 pub fn step(form: Form, tokens: &[u32], book: &mut [u32], entry: Entry) -> Result<(), Refused> {
     let done = match form {
         Form::Plain => raw::gs_step,

@@ -25,6 +25,8 @@ pub const AMOUNT: usize = 1;
 pub const COUNT: usize = 2;
 /// The word that counts a line's sales.
 pub const SALES: usize = 3;
+/// The word of the desk's view of a bench that is its handshake: 0 none, 1 the bench has authenticated, 2 then the desk too.
+pub const HANDSHAKE: usize = 3;
 /// The first word of a record's cells.
 pub const CELLS: usize = 4;
 

@@ -2,7 +2,7 @@
 //! adds, that each call reaches the function meant, with its arguments in their order.
 use gingerstall::{places::*, Entry, Form, Reading, Refused};
 
-const TOKENS: [u32; 12] = [21, 22, 23, 24, 25, 26, 27, 28, 29, 30, 31, 32];
+const TOKENS: [u32; 14] = [21, 22, 23, 24, 25, 26, 27, 28, 29, 30, 31, 32, 33, 34];
 
 fn entry(kind: u8, bench: u8, customer: u8, amount: u32) -> Entry {
     Entry { kind, bench, customer, zero: 0, amount }
@@ -80,6 +80,26 @@ fn a_run_is_its_steps() {
     }
 }
 
+/// Bench 2 is stocked with two tokens, and it and the desk authenticate.
+fn handshake() -> [Entry; 3] {
+    [entry(5, 2, 0, 2), entry(7, 2, 0, 0), entry(8, 2, 0, 0)]
+}
+
+#[test]
+fn a_clear_uses_up_a_handshake() {
+    let clear = entry(9, 2, 5, 0);
+    for form in [Form::Plain, Form::Slip] {
+        let mut book = stepped(form);
+        let mut then = |step| {
+            let answer = number(gingerstall::step(form, &TOKENS, &mut book, step));
+            (answer, book[word(bench_view(2), HANDSHAKE)])
+        };
+        assert_eq!(then(clear), (17, 0));
+        assert_eq!(handshake().map(&mut then), [(0, 0), (0, 1), (0, 2)]);
+        assert_eq!((then(clear), then(clear)), ((0, 0), (17, 0)));
+    }
+}
+
 #[test]
 fn a_dead_token_is_told() {
     let clear = entry(9, 2, 5, 0);
@@ -89,6 +109,9 @@ fn a_dead_token_is_told() {
         let mut book = stepped(form);
         gingerstall::step(form, &TOKENS, &mut book, entry(4, 0, 5, 0)).unwrap();
         gingerstall::step(form, &TOKENS, &mut book, entry(6, 2, 5, 2)).unwrap();
+        for step in handshake() {
+            gingerstall::step(form, &TOKENS, &mut book, step).unwrap();
+        }
         let refused = gingerstall::step(form, &TOKENS, &mut book, clear).unwrap_err();
         assert_eq!((refused.number(), refused.dead_token()), (15, Some(2)));
         assert_eq!(refused.to_string(), "refused 15, token 2 is dead");

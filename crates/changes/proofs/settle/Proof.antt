@@ -1,10 +1,10 @@
--- Three records are written, and the middle one still is what it was when the first is written.
+-- Three records are written, two words of the middle one, which still is what it was when the first is written.
 use mathlib.Core.Path.{refl}
 use native.Mathlib.Omega.{arith}
 use Rattle.rules.specs.Records.{amount}
 use Rattle.laws.proofs.Books.{held-few}
 use Rattle.changes.proofs.Scratch.{struck-few}
-use Rattle.changes.proofs.Written.{written, changed, later-stays}
+use Rattle.changes.proofs.Written.{written, changed-twice, later-stays}
 use borrow.Author.Needs.{needs}
 use Rattle.changes.proofs.settle.Statement.{statement}
 use Rattle.changes.proofs.settle.Tie as tie
@@ -28,6 +28,9 @@ add-set-word c = search needs
 set-word-requires : tie.Need-set-word-requires
 set-word-requires c κs = search needs
 
+set-word-requires-2 : tie.Need-set-word-requires-2
+set-word-requires-2 c κs = search needs
+
 slice-aggregate-put-made : tie.Need-slice-aggregate-put-made
 slice-aggregate-put-made c = search needs
 
@@ -43,13 +46,17 @@ at-strike c = c .before .before .before .before
 abbrev begun : tie.After-word-of2 → tie.Start
 begun c = c .before .before .before .before .before .before
 
-abbrev at-set-word : tie.After-slice-known4 → tie.After-set-word
-at-set-word c = c .before .before .before .before .before .before .before
+abbrev at-set-word : tie.After-set-word2 → tie.After-set-word
+at-set-word c = c .before .before .before .before
+
+abbrev at-set-word2 : tie.After-slice-known5 → tie.After-set-word2
+at-set-word2 c = c .before .before .before .before .before .before .before
 
 returns : tie.Need-returns
 unfolding amount
 returns c =
-    let paid = at-set-word c in
+    let reset = at-set-word2 c in
+    let paid = at-set-word reset in
     let struck = at-strike paid in
     let read = struck .before .before in
     let start = begun read in
@@ -57,7 +64,7 @@ returns c =
     later-stays _ (start .args .bench) _ _ _ _ _ (struck .strike .ensures) (omega arith)
     (struck-few _ (start .args .gone .now) _ refl (held-few (start .args .view) (start .args .book .now))) (start .pre .views-apart) in
     written _ _ _ _ _ _ _ _ _ (c .before .before .put-made .ensures) refl refl
-    (changed _ _ _ _ _ _ _ _ (paid .set-word .ensures) (omega (arith, read .word-of2 .ensures)) stays
+    (changed-twice _ _ _ _ _ _ _ _ _ _ _ (reset .set-word2 .ensures) (paid .set-word .ensures) (omega (arith, struck .strike .kept)) (omega (arith, read .word-of2 .ensures)) stays
     (written _ _ _ _ _ _ _ _ _ (struck .strike .ensures) (read .before .before .word-of .ensures) refl refl))
 
 pub settle-spec : {M : Type 1} → statement M
@@ -70,6 +77,7 @@ settle-spec =
     strike-requires
     add-set-word
     set-word-requires
+    set-word-requires-2
     slice-aggregate-put-made
     put-made-requires
     same-length

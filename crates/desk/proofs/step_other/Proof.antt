@@ -1,9 +1,9 @@
 -- Each kind's function is called with what it asks for, and its answer is the step's, with no second number.
 use Rattle.steps.proofs.sales.Stood.{works}
 use Rattle.book.specs.Forms.{formOf}
-use Rattle.kinds.proofs.Table.{step-join-customer, step-join-bench, step-open-line, step-update, step-stock, step-sell, step-top-up}
-use Rattle.desk.proofs.Kind.{as-other, Other, passed, placed, listed, asks-bench, step-authenticates}
-use mathlib.Core.Path.{_≡_, refl}
+use Rattle.kinds.proofs.Table.{step-join-customer, step-join-bench, step-open-line, step-update, step-stock, step-sell, step-bench-authenticates, step-desk-authenticates, step-top-up}
+use Rattle.desk.proofs.Kind.{as-other, passed, placed, listed, tops-up}
+use mathlib.Core.Path.{_≡_}
 use Rattle.rules.specs.Lists.{ℕ}
 use Rattle.kinds.specs.Kinds.{Placed, Passed, Listed}
 use borrow.Author.Needs.{needs}
@@ -134,13 +134,13 @@ returns-6 c =
     let s = begun-from-then6 (at-then6 c) in
     as-other _ _ _ _ _ (step-sell _ _ _ _ _ (let-pass s) (at-then6 c .if6 .taken)) (s .pre .2) (c .before .before .sell .ensures)
 
-abbrev begun-from-struct-known7 : tie.After-struct-known7 → tie.Start
-begun-from-struct-known7 c = c .before .before .before .before .before .before .before .before .before .before .before .before .before .before .before
+abbrev begun-from-then7 : tie.Then7 → tie.Start
+begun-from-then7 c = c .before .before .before .before .before .before .before .before .before .before .before .before .before .before .before .before
 
-top-up-requires : tie.Need-top-up-requires
-top-up-requires c κs =
-    let s = begun-from-struct-known7 (c .before .before) in
-    (stands s 10 (c .before .if7 .taken), works (s .args .form) .ready _ _ _ (s .pre .0 .good) .most)
+bench-authenticates-requires : tie.Need-bench-authenticates-requires
+bench-authenticates-requires c κs =
+    let s = begun-from-then7 (c .before) in
+    stands s 7 (c .before .if7 .taken)
 
 same-length-7 : tie.Need-same-length-7
 same-length-7 c = search needs
@@ -150,20 +150,41 @@ at-then7 c = c .before .before .before .before
 
 returns-7 : tie.Need-returns-7
 returns-7 c =
-    let s = begun-from-struct-known7 (at-then7 c .before) in
-    as-other _ _ _ _ _ (step-top-up _ _ _ _ _ (let-pass s) (at-then7 c .if7 .taken)) (s .pre .2) (c .before .before .top-up .ensures)
+    let s = begun-from-then7 (at-then7 c) in
+    as-other _ _ _ _ _ (step-bench-authenticates _ _ _ _ _ (let-pass s) (at-then7 c .if7 .taken)) (s .pre .2) (c .before .before .bench-authenticates .ensures)
 
-abbrev at-else6 : tie.Else7 → tie.Else6
-at-else6 c = c .before .before
+abbrev begun-from-struct-known8 : tie.After-struct-known8 → tie.Start
+begun-from-struct-known8 c = c .before .before .before .before .before .before .before .before .before .before .before .before .before .before .before .before .before
 
-abbrev at-else4 : tie.Else7 → tie.Else4
+desk-authenticates-requires : tie.Need-desk-authenticates-requires
+desk-authenticates-requires c κs =
+    let s = begun-from-struct-known8 (c .before .before) in
+    stands s 8 (c .before .if8 .taken)
+
+same-length-8 : tie.Need-same-length-8
+same-length-8 c = search needs
+
+abbrev at-then8 : tie.After-slice-known9 → tie.Then8
+at-then8 c = c .before .before .before .before
+
+returns-8 : tie.Need-returns-8
+returns-8 c =
+    let s = begun-from-struct-known8 (at-then8 c .before) in
+    as-other _ _ _ _ _ (step-desk-authenticates _ _ _ _ _ (let-pass s) (at-then8 c .if8 .taken)) (s .pre .2) (c .before .before .desk-authenticates .ensures)
+
+abbrev at-else6 : tie.Else8 → tie.Else6
+at-else6 c = c .before .before .before .before
+
+abbrev at-else4 : tie.Else8 → tie.Else4
 at-else4 c = at-else6 c .before .before .before .before
 
-abbrev at-else2 : tie.Else7 → tie.Else2
+abbrev at-else2 : tie.Else8 → tie.Else2
 at-else2 c = at-else4 c .before .before .before .before
 
-other : (c : tie.Else7) → Other (begun-from-struct-known7 (c .before) .args .e .kind)
-other c =
+kind : (c : tie.Else8) → begun-from-struct-known8 (c .before) .args .e .kind ≡ 10
+kind c =
+    let s = begun-from-struct-known8 (c .before) in
+    tops-up (formOf (s .args .form)) (s .args .h) (s .args .tokens .now) (s .args .book .now) (s .args .e) (works (s .args .form)) (s .pre .0) (s .pre .1)
     record {
       join-customer = at-else2 c .before .before .if1 .left;
       join-bench = at-else2 c .if2 .left;
@@ -171,25 +192,26 @@ other c =
       update = at-else4 c .if4 .left;
       stock = at-else6 c .before .before .if5 .left;
       sell = at-else6 c .if6 .left;
-      clear = begun-from-struct-known7 (c .before) .pre .2;
-      top-up = c .if7 .left;
+      bench-authenticates = c .before .before .if7 .left;
+      desk-authenticates = c .if8 .left;
+      clear = s .pre .2;
     }
 
-authenticate-requires : tie.Need-authenticate-requires
-authenticate-requires c κs =
-    let s = begun-from-struct-known7 (c .before .before) in
-    (stands s _ refl, asks-bench (formOf (s .args .form)) (s .args .h) (s .args .tokens .now) (s .args .book .now) (s .args .e) (works (s .args .form)) (s .pre .0) (s .pre .1) (other (c .before)))
+top-up-requires : tie.Need-top-up-requires
+top-up-requires c κs =
+    let s = begun-from-struct-known8 (c .before .before) in
+    (stands s 10 (kind (c .before)), works (s .args .form) .ready _ _ _ (s .pre .0 .good) .most)
 
-same-length-8 : tie.Need-same-length-8
-same-length-8 c = search needs
+same-length-9 : tie.Need-same-length-9
+same-length-9 c = search needs
 
-abbrev at-else7 : tie.After-slice-known9 → tie.Else7
-at-else7 c = c .before .before .before .before
+abbrev at-else8 : tie.After-slice-known10 → tie.Else8
+at-else8 c = c .before .before .before .before
 
-returns-8 : tie.Need-returns-8
-returns-8 c =
-    let s = begun-from-struct-known7 (at-else7 c .before) in
-    as-other _ _ _ _ _ (step-authenticates (formOf (s .args .form)) (s .args .h) (s .args .tokens .now) (s .args .book .now) (s .args .e) (works (s .args .form)) (s .pre .0) (s .pre .1) (other (at-else7 c))) (s .pre .2) (c .before .before .authenticate .ensures)
+returns-9 : tie.Need-returns-9
+returns-9 c =
+    let s = begun-from-struct-known8 (at-else8 c .before) in
+    as-other _ _ _ _ _ (step-top-up _ _ _ _ _ (let-pass s) (kind (at-else8 c))) (s .pre .2) (c .before .before .top-up .ensures)
 
 pub step-other-spec : {M : Type 1} → statement M
 step-other-spec =
@@ -213,9 +235,12 @@ step-other-spec =
     sell-requires
     same-length-6
     returns-6
-    top-up-requires
+    bench-authenticates-requires
     same-length-7
     returns-7
-    authenticate-requires
+    desk-authenticates-requires
     same-length-8
-    returns-8)
+    returns-8
+    top-up-requires
+    same-length-9
+    returns-9)

@@ -8,27 +8,27 @@ use Rattle.rules.specs.declared.Entry.{Entry}
 use Rattle.rules.specs.Lists.{ℕ, _+_, _*_, Bool, true, false, cond, ltb, List, [], _++_, length, take, getD, without, firstAbsent}
 use Rattle.rules.specs.Hall.{mostHeld, mostSales}
 use Rattle.rules.specs.Answers.{Rule, first}
-use Rattle.rules.specs.Records.{words, amount, count, sales, held, made, withAmount, recordAt, put}
+use Rattle.rules.specs.Records.{words, amount, count, sales, handshake, held, made, withAmount, withHandshake, recordAt, put}
 use Rattle.rules.specs.Form.{Form}
-use Rattle.rules.specs.Steps.{settling, clearing, putAll}
+use Rattle.rules.specs.Steps.{settling, clearing, putAll, theBenchView}
 use Rattle.rules.specs.Verdicts.{waiting, deadAt}
 use Rattle.laws.proofs.Blocks.{block-size}
 use Rattle.tokens.specs.Laid.{laid}
-use Rattle.kinds.specs.Chains.{clearRules}
+use Rattle.kinds.specs.Chains.{shakenRules, clearRules}
 use Rattle.changes.specs.Found.{Account}
 use Rattle.changes.proofs.Scratch.{first-laid}
 use Rattle.kinds.specs.Kinds.{knownLine}
 use Rattle.steps.specs.declared.sales.Spots.{Spots}
-use Rattle.steps.specs.Spots.{knownAt}
+use Rattle.steps.specs.Spots.{knownAt, shakenAt}
 use Rattle.rules.proofs.Answering.{first-refuses}
-use Rattle.steps.proofs.sales.Chained.{known-then}
+use Rattle.steps.proofs.sales.Chained.{shaken-then}
 use Rattle.steps.proofs.sales.Stood.{Case, inside, ready, all-stand, few-tokens, few-sales, counted}
 
 -- the place of the first token that is gone and doesn't live in the view
 abbrev dead : List ℕ → Spots → List ℕ → ℕ
 dead b at gone = firstAbsent (held (recordAt (at .view) b)) gone
 
--- a clear that knows its line is refused for a dead token alone
+-- a clear that knows its line and has its handshake is refused for a dead token alone
 pub refused-dead : (d n r : ℕ) → r ≡ first (clearRules d n) → (r ≡ 0 → ⊥) → (r ≡ 15) × (d < n)
 unfolding clearRules first
 refused-dead d n r e z = go (ltb d n) refl e
@@ -41,12 +41,13 @@ refused-dead d n r e z = go (ltb d n) refl e
 abbrev settled : List ℕ → Spots → List ℕ → List ℕ
 settled b at gone =
     put (at .line) (made 0 0 [])
-    (put (at .bench) (withAmount (amount (recordAt (at .bench) b) + length gone) (recordAt (at .bench) b))
+    (put (at .bench) (withHandshake 0 (withAmount (amount (recordAt (at .bench) b) + length gone) (recordAt (at .bench) b)))
     (put (at .view) (made (amount (recordAt (at .view) b)) 0 (without gone (held (recordAt (at .view) b)))) b))
 
 -- the chain of a clear, as the rules have it
 abbrev pub clearChain : Form → Hall → List ℕ → List ℕ → Entry → List Rule
-clearChain f h ts b e = knownLine h b e ++ clearRules (deadAt f h ts b e) (length (waiting f h ts b e))
+clearChain f h ts b e =
+    (knownLine h b e ++ shakenRules (handshake (theBenchView h b e))) ++ clearRules (deadAt f h ts b e) (length (waiting f h ts b e))
 
 module _ {f : Form} {h : Hall} {ts b : List ℕ} {e : Entry} {at : Spots} (case : Case f h ts b e 9 at) where
   -- ---- the tokens that are gone
@@ -66,9 +67,9 @@ module _ {f : Form} {h : Hall} {ts b : List ℕ} {e : Entry} {at : Spots} (case 
       (c ∙ ap (λ (x : List ℕ). laid (f .tokens ts x) out) q)
 
   -- ---- the number
-  pub line-refused : (r : ℕ) → r ≡ first (knownAt b at) → (r ≡ 0 → ⊥) → r ≡ first (clearChain f h ts b e)
-  unfolding knownAt knownLine
-  line-refused r n z = first-refuses (knownLine h b e) _ r (n ∙ ap (λ (s : Spots). first (knownAt b s)) (case .found)) z
+  pub shaken-refused : (r : ℕ) → r ≡ first (shakenAt b at) → (r ≡ 0 → ⊥) → r ≡ first (clearChain f h ts b e)
+  unfolding shakenAt knownAt knownLine
+  shaken-refused r n z = first-refuses _ _ r (n ∙ ap (λ (s : Spots). first (shakenAt b s)) (case .found)) z
 
   -- the count that was read is how many tokens the line stands for
   all-waiting : (n : ℕ) → n ≡ getD (recordAt (at .line) b) 2 0 → n ≡ length (waiting f h ts b e)
@@ -83,12 +84,12 @@ module _ {f : Form} {h : Hall} {ts b : List ℕ} {e : Entry} {at : Spots} (case 
         ∙ ap (dead b at) all
         ∙ ap (λ (s : Spots). dead b s (f .tokens ts (recordAt (s .line) b))) (case .found)
 
-    pub clear-number : (r s d n : ℕ) → r ≡ first (knownAt b at) → r ≡ 0 → d ≡ deadAt f h ts b e → n ≡ getD (recordAt (at .line) b) 2 0
+    pub clear-number : (r s d n : ℕ) → r ≡ first (shakenAt b at) → r ≡ 0 → d ≡ deadAt f h ts b e → n ≡ getD (recordAt (at .line) b) 2 0
         → s ≡ first (clearRules d n) → s ≡ first (clearChain f h ts b e)
-    unfolding knownAt knownLine
+    unfolding shakenAt knownAt knownLine
     clear-number r s d n k z p q m =
-        known-then b at r k z _ s (m ∙ rw (p, all-waiting n q))
-        ∙ ap (λ (s : Spots). first (knownAt b s ++ clearRules (deadAt f h ts b e) (length (waiting f h ts b e)))) (case .found)
+        shaken-then b at r k z _ s (m ∙ rw (p, all-waiting n q))
+        ∙ ap (λ (s : Spots). first (shakenAt b s ++ clearRules (deadAt f h ts b e) (length (waiting f h ts b e)))) (case .found)
 
     -- ---- the book afterwards
     pub clear-written : (new : List ℕ) → new ≡ settled b at gone → new ≡ putAll h (clearing h b e f ts) b

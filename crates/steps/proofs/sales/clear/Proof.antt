@@ -13,8 +13,8 @@ use Rattle.rules.proofs.Dead.{told-none, told-dead}
 use Rattle.kinds.specs.Kinds.{clear}
 use Rattle.steps.proofs.Answered.{refused, granted, as-alone}
 use Rattle.steps.proofs.sales.Stood.{Case, called, all-stand}
-use Rattle.steps.proofs.sales.Chained.{known-lives}
-use Rattle.steps.proofs.sales.Cleared.{clearChain, refused-dead, gone-few, line-fit, first-gone, line-refused, dead-is, clear-number, clear-written, account}
+use Rattle.steps.proofs.sales.Chained.{shaken-lives}
+use Rattle.steps.proofs.sales.Cleared.{clearChain, refused-dead, gone-few, line-fit, first-gone, shaken-refused, dead-is, clear-number, clear-written, account}
 use borrow.Author.Needs.{needs}
 use Rattle.steps.proofs.sales.clear.Statement.{statement}
 use Rattle.steps.proofs.sales.clear.Tie as tie
@@ -29,8 +29,8 @@ case : (c : tie.After-find) → let s = begun-from-find c .args in Case (formOf 
 unfolding occ
 case c = called (begun-from-find c .args .form) (begun-from-find c .pre) refl refl (c .find .ensures)
 
-known-line-requires : tie.Need-known-line-requires
-known-line-requires c κs = all-stand (case (c .before))
+judge-handshake-requires : tie.Need-judge-handshake-requires
+judge-handshake-requires c κs = all-stand (case (c .before))
 
 same-length : tie.Need-same-length
 same-length c = search needs
@@ -38,21 +38,21 @@ same-length c = search needs
 alone-requires : tie.Need-alone-requires
 alone-requires c κs = search needs
 
-abbrev at-find-from-known-line : tie.After-known-line → tie.After-find
-at-find-from-known-line c = c .before .before
+abbrev at-find-from-handshake : tie.After-judge-handshake → tie.After-find
+at-find-from-handshake c = c .before .before
 
 returns : tie.Need-returns
 unfolding clear
 returns c =
     let told = c .before in
-    let known = told .before .known-line .ensures in
+    let known = told .before .judge-handshake .ensures in
     as-alone (c .alone .ensures)
     (told-none _ _ _ _ _
-    (refused _ _ _ _ (line-refused (case (at-find-from-known-line (told .before))) _ known (told .if1 .taken)) (told .if1 .taken))
-    (known-lives _ _ _ known))
+    (refused _ _ _ _ (shaken-refused (case (at-find-from-handshake (told .before))) _ known (told .if1 .taken)) (told .if1 .taken))
+    (shaken-lives _ _ _ known))
 
 abbrev at-find-from-word-of-arg : tie.After-word-of-arg → tie.After-find
-at-find-from-word-of-arg c = at-find-from-known-line (c .before .before)
+at-find-from-word-of-arg c = at-find-from-handshake (c .before .before)
 
 word-of-requires : tie.Need-word-of-requires
 word-of-requires c κs = (all-stand (case (at-find-from-word-of-arg c)) .line, omega arith)
@@ -66,14 +66,14 @@ record-at-requires c κs = all-stand (case (at-find-from-word-of-arg (c .before 
 slice-aggregate-gather-line : tie.Need-slice-aggregate-gather-line
 slice-aggregate-gather-line c = search needs
 
-abbrev at-known-line : tie.After-gone → tie.After-known-line
-at-known-line c = c .before .before .before .before .before .before
+abbrev at-handshake : tie.After-gone → tie.After-judge-handshake
+at-handshake c = c .before .before .before .before .before .before
 
 gather-line-requires : tie.Need-gather-line-requires
-gather-line-requires c κs = line-fit (case (at-find-from-known-line (at-known-line c))) _ (c .before .record-at .ensures)
+gather-line-requires c κs = line-fit (case (at-find-from-handshake (at-handshake c))) _ (c .before .record-at .ensures)
 
 abbrev at-find-from-gather-line : tie.After-gather-line → tie.After-find
-at-find-from-gather-line c = at-find-from-known-line (at-known-line (c .before))
+at-find-from-gather-line c = at-find-from-handshake (at-handshake (c .before))
 
 tokens-at-requires : tie.Need-tokens-at-requires
 tokens-at-requires c κs = let stand = all-stand (case (at-find-from-gather-line (c .before .before))) in search needs
@@ -123,8 +123,8 @@ dead c =
 number : (c : tie.After-clear) → let s = begun-from-clear c .args in c .clear .result ≡ first (clearChain (formOf (s .form)) (s .h) (s .tokens .now) (s .book .now) (s .e))
 number c =
     let gathered = at-gather-line-from-tokens-at (at-tokens-at c) in
-    let known = at-known-line (gathered .before) in
-    clear-number (case (known .before .before)) _ (gone gathered) _ _ _ _ (known .known-line .ensures) (at-word-of gathered .before .before .if1 .left) (dead c) (at-word-of gathered .word-of .ensures) (c .clear .ensures)
+    let known = at-handshake (gathered .before) in
+    clear-number (case (known .before .before)) _ (gone gathered) _ _ _ _ (known .judge-handshake .ensures) (at-word-of gathered .before .before .if1 .left) (dead c) (at-word-of gathered .word-of .ensures) (c .clear .ensures)
 
 cast-t29 : tie.Need-cast-t29
 cast-t29 c =
@@ -181,7 +181,7 @@ clear-spec =
     tie.close
     (tie.spec
     find-requires
-    known-line-requires
+    judge-handshake-requires
     alone-requires
     same-length
     returns
