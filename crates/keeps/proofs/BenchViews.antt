@@ -5,13 +5,14 @@ use native.Mathlib.Omega.{arith}
 use borrow.Author.Tests.{eq-eqb}
 use Rattle.rules.specs.declared.Hall.{Hall}
 use Rattle.rules.specs.declared.Entry.{Entry}
-use Rattle.rules.specs.Lists.{ℕ, _*_, Bool, true, false, cond, eqb, List, [], _∷_, length, occ, isIn}
+use Rattle.rules.specs.Lists.{ℕ, _*_, Bool, true, false, eqb, List, [], _∷_, length, occ, isIn}
 use Rattle.rules.specs.Hall.{Place, Desk, Carnet, View, BenchView, Till, Line, number, records}
 use Rattle.rules.specs.Records.{words, inUse, amount, handshake, held, made, withAmount, withHandshake}
 use Rattle.rules.specs.Tape.{JoinBench, Stock, BenchAuthenticates, DeskAuthenticates, Clear, kindOf, usesBench}
 use Rattle.rules.specs.Form.{Form, plain}
 use Rattle.rules.specs.Steps.{joining, dealing, updating, stocking, selling, authenticating, settling, clearing, toppingUp, changes, effect, theBenchView}
 use Rattle.rules.specs.Verdicts.{verdict, step}
+use Rattle.rules.proofs.Tests.{never}
 use Rattle.rules.proofs.Stepping.{step-cases, step-changes}
 use Rattle.rules.proofs.Named.{Each}
 use Rattle.rules.proofs.ByKind.{IsKind, by-kind}
@@ -47,9 +48,6 @@ pub record Blank (r : List ℕ) : Type 0 where
 abbrev pub Strangers : Form → Type 0
 Strangers f = (h : Hall) (ts b : List ℕ) → f .good h ts b ≡ true → (m : ℕ) → m < h .benches → (inUse (at h b (Till m)) ≡ 1 → ⊥) → Blank (at h b (BenchView m))
 
-never : {P : Type 0} → true ≡ false → P
-never z = let o : _≡_ {A = ℕ} 1 0 = ap (λ (t : Bool). cond t 1 0) z in absurd (omega arith)
-
 -- ---- the records that steps write
 module _ (k : ℕ) (r : List ℕ) where
   stays : Rest k r r
@@ -58,14 +56,14 @@ module _ (k : ℕ) (r : List ℕ) where
   -- other tokens and another handshake
   anew : writesHandshake k ≡ true → writesTokens k ≡ true → (s : ℕ) (xs : List ℕ) → Rest k r (made (amount r) s xs)
   anew p q s xs =
-      record { balance = λ n. made-amount (amount r) s xs; shaken = λ n. never (sym p ∙ n); tokens = λ n. never (sym q ∙ n) }
+      record { balance = λ n. made-amount (amount r) s xs; shaken = λ n. never _ p n; tokens = λ n. never _ q n }
 
   -- another balance and another handshake
   paid : writesHandshake k ≡ true → writesBalance k ≡ true → (a s : ℕ) → Rest k r (withHandshake s (withAmount a r))
   paid p q a s =
       record {
-        balance = λ n. never (sym q ∙ n);
-        shaken = λ n. never (sym p ∙ n);
+        balance = λ n. never _ q n;
+        shaken = λ n. never _ p n;
         tokens = λ n. with-held 3 s (withAmount a r) (omega arith) (λ z. omega arith) ∙ amount-held a r;
       }
 
@@ -131,16 +129,16 @@ module _ (f : Form) (regular : Regular f) (strangers : Strangers f) (h : Hall) (
         let here : eqb (e .bench) (e .bench) ≡ true = eq-eqb (e .bench) (e .bench) refl in
         by-kind (λ k. Each (Shaken (comesTo k)) (changes h b e f ts k) → writesHandshake k ≡ true → handshake (lookup (changes h b e f ts k) (at h b) (BenchView (e .bench))) ≡ comesTo k)
         record {
-          join-customer = λ s w. never (sym w);
-          join-bench = λ s w. never (sym w);
-          open-line = λ s w. never (sym w);
-          update = λ s w. never (sym w);
+          join-customer = λ s w. never false w refl;
+          join-bench = λ s w. never false w refl;
+          open-line = λ s w. never false w refl;
+          update = λ s w. never false w refl;
           stock = λ s w. rw here (s .1 .0);
-          sell = λ s w. never (sym w);
+          sell = λ s w. never false w refl;
           bench-authenticates = λ s w. rw here (s .1 .0);
           desk-authenticates = λ s w. rw here (s .1 .0);
           clear = λ s w. rw here (s .1 .0);
-          top-up = λ s w. never (sym w);
+          top-up = λ s w. never false w refl;
         }
         k i (changes-shake f h ts b e whole k i)
 

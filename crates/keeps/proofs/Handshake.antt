@@ -58,15 +58,16 @@ allowed : ℕ → List ℕ → Bool
 allowed s [] = true
 allowed s (k ∷ ks) = finds s k && allowed (comesTo k) ks
 
--- what brought the handshake to s
+-- what brought the handshake to s, and a place behind that
 abbrev before : ℕ → List ℕ
 before zero = []
 before (suc zero) = kindOf BenchAuthenticates ∷ []
 before (suc (suc n)) = kindOf BenchAuthenticates ∷ kindOf DeskAuthenticates ∷ []
 
-needs : (a b : Bool) → not a || b ≡ true → a ≡ true → b ≡ true
-needs true b e p = e
-needs false b e p = cc
+abbrev ahead : ℕ → ℕ → ℕ
+ahead zero i = i
+ahead (suc zero) i = suc i
+ahead (suc (suc n)) i = suc (suc i)
 
 met : (a b : Bool) → (a ≡ true → b ≡ true) → not a || b ≡ true
 met true b f = f refl
@@ -75,41 +76,36 @@ met false b f = refl
 later : (k : ℕ) (ks : List ℕ) (i : ℕ) → Follows ks i → Follows (k ∷ ks) (suc i)
 later k ks i p = record { from = suc (p .from); directly = ap suc (p .directly); bench = p .bench; desk = p .desk }
 
--- behind what was before
-behind : (s : ℕ) (ks : List ℕ) (i : ℕ) → Follows ks i → Follows (before s ++ ks) (length (before s) + i)
-behind zero ks i p = subst (Follows ks) (let q : i ≡ 0 + i = omega arith in q) p
-behind (suc zero) ks i p = subst (Follows (before 1 ++ ks)) (let q : suc i ≡ 1 + i = omega arith in q) (later _ ks i p)
-behind (suc (suc n)) ks i p =
-    subst (Follows (before 2 ++ ks)) (let q : suc (suc i) ≡ 2 + i = omega arith in q) (later _ _ (suc i) (later _ ks i p))
+behind : (s : ℕ) (ks : List ℕ) (i : ℕ) → Follows ks i → Follows (before s ++ ks) (ahead s i)
+behind zero ks i p = p
+behind (suc zero) ks i p = later _ ks i p
+behind (suc (suc n)) ks i p = later _ _ (suc i) (later _ ks i p)
 
 -- so a clear among them follows on both, with what was before
-follows : (s : ℕ) (ks : List ℕ) → allowed s ks ≡ true → (i : ℕ) → getD ks i 0 ≡ kindOf Clear → Follows (before s ++ ks) (length (before s) + i)
+follows : (s : ℕ) (ks : List ℕ) → allowed s ks ≡ true → (i : ℕ) → getD ks i 0 ≡ kindOf Clear → Follows (before s ++ ks) (ahead s i)
 unfolding allowed
 follows s [] a i c = absurd (omega (arith, c))
 follows s (k ∷ ks) a zero c =
     let found : finds s k ≡ true = and-left _ (allowed (comesTo k) ks) a in
-    let two : s ≡ 2 = eqb-true _ _ (needs (eqb k (kindOf Clear)) (eqb s 2) (and-right (not (eqb k (kindOf DeskAuthenticates)) || eqb s 1) _ found) (eq-eqb _ _ c)) in
-    subst (λ (x : ℕ). Follows (before x ++ k ∷ ks) (length (before x) + 0)) (sym two)
-    (record { from = 0; directly = refl; bench = refl; desk = refl })
+    let two : s ≡ 2 = eqb-true _ _ (rw (eq-eqb k (kindOf Clear) c) at (and-right (not (eqb k (kindOf DeskAuthenticates)) || eqb s 1) _ found)) in
+    subst (λ (x : ℕ). Follows (before x ++ k ∷ ks) (ahead x 0)) (sym two) (record { from = 0; directly = refl; bench = refl; desk = refl })
 follows s (k ∷ ks) a (suc i) c =
     let found : finds s k ≡ true = and-left _ (allowed (comesTo k) ks) a in
-    let p : Follows (before (comesTo k) ++ ks) (length (before (comesTo k)) + i) = follows (comesTo k) ks (and-right (finds s k) _ a) i c in
+    let p : Follows (before (comesTo k) ++ ks) (ahead (comesTo k) i) = follows (comesTo k) ks (and-right (finds s k) _ a) i c in
     ⊎-elim
-    (λ (q : k ≡ kindOf BenchAuthenticates). subst Onward (sym q) (λ r. behind s (kindOf BenchAuthenticates ∷ ks) (suc i) (subst (Follows _) (let z : 1 + i ≡ suc i = omega arith in z) r)) p)
+    (λ (q : k ≡ kindOf BenchAuthenticates). subst Onward (sym q) (behind s (kindOf BenchAuthenticates ∷ ks) (suc i)) p)
     (λ (n : k ≡ kindOf BenchAuthenticates → ⊥).
     ⊎-elim
     (λ (q : k ≡ kindOf DeskAuthenticates).
-    let one : s ≡ 1 = eqb-true _ _ (needs (eqb k (kindOf DeskAuthenticates)) (eqb s 1) (and-left _ (not (eqb k (kindOf Clear)) || eqb s 2) found) (eq-eqb _ _ q)) in
-    subst Onward (sym q)
-    (λ r. subst (λ (x : ℕ). Follows (before x ++ kindOf DeskAuthenticates ∷ ks) (length (before x) + suc i)) (sym one) (subst (Follows _) (let z : 2 + i ≡ 1 + suc i = omega arith in z) r)) p)
+    let one : s ≡ 1 = eqb-true _ _ (rw (eq-eqb k (kindOf DeskAuthenticates) q) at (and-left (not (eqb k (kindOf DeskAuthenticates)) || eqb s 1) _ found)) in
+    subst Onward (sym q) (λ r. subst (λ (x : ℕ). Follows (before x ++ kindOf DeskAuthenticates ∷ ks) (ahead x (suc i))) (sym one) r) p)
     (λ (n′ : k ≡ kindOf DeskAuthenticates → ⊥).
-    let r : Follows ks (0 + i) = rw (ne-eqb k (kindOf BenchAuthenticates) n, ne-eqb k (kindOf DeskAuthenticates) n′) at p in
-    behind s (k ∷ ks) (suc i) (later k ks i (subst (Follows ks) (let z : 0 + i ≡ i = omega arith in z) r)))
+    behind s (k ∷ ks) (suc i) (later k ks i (rw (ne-eqb k (kindOf BenchAuthenticates) n, ne-eqb k (kindOf DeskAuthenticates) n′) at p)))
     (same k (kindOf DeskAuthenticates)))
     (same k (kindOf BenchAuthenticates))
   where
     Onward : ℕ → Type 0
-    Onward x = Follows (before (comesTo x) ++ ks) (length (before (comesTo x)) + i) → Follows (before s ++ x ∷ ks) (length (before s) + suc i)
+    Onward x = Follows (before (comesTo x) ++ ks) (ahead (comesTo x) i) → Follows (before s ++ x ∷ ks) (ahead s (suc i))
 
 -- ---- of a tape: the book's handshake is what the doings make of it
 module _ (f : Form) (regular : Regular f) (strangers : Strangers f) (h : Hall) (ts : List ℕ) (m : ℕ) (inside : m < h .benches) where
@@ -176,8 +172,7 @@ module _ (f : Form) (regular : Regular f) (strangers : Strangers f) (h : Hall) (
   from-empty es i c =
       let none : shaken (emptyBook h) ≡ 0 = ap handshake (empty-other h (number h (BenchView m)) (omega arith) (inside-below h (BenchView m) inside)) in
       let ks : List ℕ = doings m es (steps f h ts (emptyBook h) es .verdicts) in
-      subst (Follows ks) (let z : 0 + i ≡ i = omega arith in z)
-      (follows 0 ks (ap (λ (s : ℕ). allowed s ks) (sym none) ∙ kept (emptyBook h) es) i c)
+      follows 0 ks (ap (λ (s : ℕ). allowed s ks) (sym none) ∙ kept (emptyBook h) es) i c
 
 pub handshakes : (f : Form) → Regular f → Strangers f → Handshakes f
 handshakes f regular strangers =

@@ -22,22 +22,25 @@ use Rattle.laws.proofs.Reflect.{Book, sound-facts}
 use Rattle.laws.proofs.Asked.{record-shaped, record-is, record-made, held-none, place-view}
 use Rattle.laws.proofs.Books.{long-at, place-at, bare-at, line-at}
 use Rattle.laws.proofs.Places.{Inside, inside-below}
-use Rattle.laws.proofs.Changes.{at, Fit, at-long, put-off}
+use Rattle.laws.proofs.Changes.{at, at-long, put-off}
 use Rattle.keeps.proofs.Fits.{Regular, plain-regular}
 
--- ---- changes that write what stands there
-data Standing (h : Hall) (b : List ℕ) : List Change → Type 0 where
-  none : Standing h b []
-  _also_ : {p : Place} {r : List ℕ} {cs : List Change} → at h b p ≡ r → Standing h b cs → Standing h b ((p ≔ r) ∷ cs)
+-- ---- changes that write what stands there, or lead to a book that is known
+data Leads (h : Hall) (b′ : List ℕ) : List ℕ → List Change → Type 0 where
+  none : Leads h b′ b′ []
+  _also_ : {b : List ℕ} {p : Place} {r : List ℕ} {cs : List Change} → at h b p ≡ r → Leads h b′ b cs → Leads h b′ b ((p ≔ r) ∷ cs)
+  _then_ : {b b₁ : List ℕ} {p : Place} {r : List ℕ} {cs : List Change} → put (number h p) r b ≡ b₁ → Leads h b′ b₁ cs → Leads h b′ b ((p ≔ r) ∷ cs)
 
 infixr 20 _also_
-put-same : (h : Hall) (b : List ℕ) (p : Place) (r : List ℕ) → at h b p ≡ r → put (number h p) r b ≡ b
-put-same h b p r e = ap (λ (x : List ℕ). put (number h p) x b) (sym e) ∙ block-back words (number h p) b
-
-put-standing : (h : Hall) (b : List ℕ) {cs : List Change} → Standing h b cs → putAll h cs b ≡ b
+infixr 20 _then_
+put-leads : (h : Hall) (b′ : List ℕ) {b : List ℕ} {cs : List Change} → Leads h b′ b cs → putAll h cs b ≡ b′
 unfolding putAll
-put-standing h b none = refl
-put-standing h b (_also_ {p} {r} {cs} e s) = ap (putAll h cs) (put-same h b p r e) ∙ put-standing h b s
+put-leads h b′ none = refl
+put-leads h b′ (_also_ {b} {p} {r} {cs} e s) =
+    ap (λ (x : List ℕ). putAll h cs (put (number h p) x b)) (sym e)
+    ∙ ap (putAll h cs) (block-back words (number h p) b)
+    ∙ put-leads h b′ s
+put-leads h b′ (_then_ {cs = cs} e s) = ap (putAll h cs) e ∙ put-leads h b′ s
 
 without-none : (xs : List ℕ) → without [] xs ≡ xs
 unfolding without occ
@@ -63,8 +66,11 @@ module _ (f : Form) (regular : Regular f) (tidies : Tidies f) (h : Hall) (ts b :
   tidy : Tidy f h ts b
   tidy = tidies h ts b (granted-good f h ts b e v)
 
-  stays : (k : ℕ) → e .kind ≡ k → Standing h b (changes h b e f ts k) → step f h ts b e .cells ≡ b
-  stays k q s = step-changes f h ts b e v q ∙ put-standing h b s
+  long : length b ≡ words * records h
+  long = regular .long h ts b (granted-good f h ts b e v)
+
+  leaves : (k : ℕ) (b′ : List ℕ) → e .kind ≡ k → Leads h b′ b (changes h b e f ts k) → step f h ts b e .cells ≡ b′
+  leaves k b′ q s = step-changes f h ts b e v q ∙ put-leads h b′ s
 
   -- a kind that names a bench, a customer and their line
   module _ (k : ℕ) (q : e .kind ≡ k) (both : usesBench k && usesCustomer k && leb (kindOf Sell) k && (eqb k (kindOf Sell) || eqb k (kindOf Clear)) ≡ true) where
@@ -97,7 +103,7 @@ module _ (f : Form) (regular : Regular f) (tidies : Tidies f) (h : Hall) (ts b :
         tidy .filled-at (number h (Line (e .bench) (e .customer))) (omega arith) line-in
         (has-line f h ts b e v (ap (λ (i : ℕ). eqb i (kindOf Sell) || eqb i (kindOf Clear)) q ∙ search parts))
 
-    none-sold : e .amount ≡ 0 → Standing h b (selling h b e f)
+    none-sold : e .amount ≡ 0 → Leads h b b (selling h b e f)
     unfolding selling soldLine
     none-sold z =
         let sold : ℕ → List ℕ = λ i. filled 1 0 (count (theLine h b e) + i) (sales (theLine h b e) + min i 1) (f .sale (take i (held (theCarnet h b e))) ++ f .cells (theLine h b e)) in
@@ -109,42 +115,50 @@ module _ (f : Form) (regular : Regular f) (tidies : Tidies f) (h : Hall) (ts b :
         also none
 
     -- the view and the line stand as they are written, and the bench's view but for its handshake
-    none-waiting : count (theLine h b e) ≡ 0 → putAll h (clearing h b e f ts) b ≡ withWord (words * number h (BenchView (e .bench)) + 3) 0 b
-    unfolding putAll settling clearing made amount withWord
-    none-waiting z =
-        let B : ℕ = number h (BenchView (e .bench)) in
+    abbrev unshaken : List ℕ
+    unshaken = withWord (words * number h (BenchView (e .bench)) + 3) 0 b
+
+    used-up : put (number h (BenchView (e .bench))) (withHandshake 0 (theBenchView h b e)) b ≡ unshaken
+    unfolding withWord
+    used-up = sym (block-word words (number h (BenchView (e .bench))) 3 0 b (omega (arith, long, inside-below h (BenchView (e .bench)) m-in)) (omega arith))
+
+    line-stays : at h unshaken (Line (e .bench) (e .customer)) ≡ theLine h b e
+    line-stays =
+        let r : List ℕ = withHandshake 0 (theBenchView h b e) in
         let im : Inside h (BenchView (e .bench)) = m-in in
-        let long : length b ≡ words * records h = regular .long h ts b (granted-good f h ts b e v) in
-        let fit : Fit h (BenchView (e .bench)) (withHandshake 0 (theBenchView h b e)) =
-        record { inside = im; long = with-long 3 0 (theBenchView h b e) ∙ at-long h b long (BenchView (e .bench)) im } in
+        ap (λ (x : List ℕ). at h x (Line (e .bench) (e .customer))) (sym used-up)
+        ∙ put-off h b long (BenchView (e .bench)) r
+        (record { inside = im; long = with-long 3 0 (theBenchView h b e) ∙ at-long h b long (BenchView (e .bench)) im })
+        (number h (Line (e .bench) (e .customer))) (λ q. omega arith)
+
+    none-waiting : count (theLine h b e) ≡ 0 → Leads h unshaken b (clearing h b e f ts)
+    unfolding settling clearing made amount
+    none-waiting z =
         let empty = tidy .emptied (number h (Line (e .bench) (e .customer))) (omega arith) line-in z in
         let blank : filled 1 0 (count (theLine h b e)) (sales (theLine h b e)) (f .cells (theLine h b e)) ≡ made 0 0 [] = rw (z, empty .0, empty .2) in
         let unpaid : amount (theBenchView h b e) + length (f .tokens ts (theLine h b e)) ≡ amount (theBenchView h b e) = rw (empty .1) (omega arith) in
-        ap (λ (x : List ℕ). put (number h (Line (e .bench) (e .customer))) (made 0 0 []) (put B (withHandshake 0 (withAmount (amount (theBenchView h b e) + length (f .tokens ts (theLine h b e))) (theBenchView h b e))) x))
-        (put-same h b (View (e .customer)) _
         (view-made
         ∙ ap (made (amount (theView h b e)) 0)
-        (sym (ap (λ (t : List ℕ). without t (held (theView h b e))) (empty .1) ∙ without-none (held (theView h b e))))))
-        ∙ ap (λ (x : List ℕ). put (number h (Line (e .bench) (e .customer))) (made 0 0 []) (put B (withHandshake 0 x) b))
+        (sym (ap (λ (t : List ℕ). without t (held (theView h b e))) (empty .1) ∙ without-none (held (theView h b e)))))
+        also (ap (λ (x : List ℕ). put (number h (BenchView (e .bench))) (withHandshake 0 x) b)
         (ap (λ (a : ℕ). withAmount a (theBenchView h b e)) unpaid ∙ with-own 1 (theBenchView h b e))
-        ∙ put-same h (put B (withHandshake 0 (theBenchView h b e)) b) (Line (e .bench) (e .customer)) (made 0 0 [])
-        (put-off h b long (BenchView (e .bench)) (withHandshake 0 (theBenchView h b e)) fit (number h (Line (e .bench) (e .customer))) (λ q. omega arith)
-        ∙ line-filled ∙ blank)
-        ∙ sym (block-word words B 3 0 b (omega (arith, long, inside-below h (BenchView (e .bench)) im)) (omega arith))
+        ∙ used-up)
+        then (line-stays ∙ line-filled ∙ blank)
+        also none
 
   sale-of-none : e .kind ≡ kindOf Sell → e .amount ≡ 0 → step f h ts b e .cells ≡ b
   unfolding changes occ
-  sale-of-none q z = stays (kindOf Sell) q (none-sold (kindOf Sell) q refl z)
+  sale-of-none q z = leaves (kindOf Sell) b q (none-sold (kindOf Sell) q refl z)
 
   clear-of-none : e .kind ≡ kindOf Clear → count (theLine h b e) ≡ 0 → step f h ts b e .cells ≡ withWord (words * number h (BenchView (e .bench)) + 3) 0 b
   unfolding changes occ
-  clear-of-none q z = step-changes f h ts b e v q ∙ none-waiting (kindOf Clear) q refl z
+  clear-of-none q z = leaves (kindOf Clear) (unshaken (kindOf Clear) q refl) q (none-waiting (kindOf Clear) q refl z)
 
   top-up-of-none : e .kind ≡ kindOf TopUp → e .amount ≡ 0 → step f h ts b e .cells ≡ b
   unfolding changes toppingUp amount
   top-up-of-none q z =
       let raised : amount (theView h b e) + e .amount ≡ amount (theView h b e) = omega arith in
-      stays (kindOf TopUp) q
+      leaves (kindOf TopUp) b q
       (sym (ap (λ (a : ℕ). withAmount a (theView h b e)) raised ∙ with-own 1 (theView h b e)) also none)
 
 -- ---- so, of a form

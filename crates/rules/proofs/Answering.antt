@@ -5,7 +5,7 @@ use Prim.Native.Nat.{_≤_, _<_}
 use native.Mathlib.Omega.{arith}
 use borrow.Author.Tests.{eqb-true, eq-eqb, ne-eqb, ltb-true, lt-ltb}
 use Rattle.rules.specs.Lists.{ℕ, suc, _+_, Bool, true, false, cond, _&&_, ltb, eqb, List, [], _∷_, _++_, occ, isIn, allDifferent, firstOf, placeOf}
-use Rattle.rules.proofs.Tests.{parts, and-left, and-right, same}
+use Rattle.rules.proofs.Tests.{parts, never, and-left, and-right, same}
 use Rattle.rules.specs.Answers.{Rule, _⇐_, first, answer, Gives}
 
 module _ (rules : List Rule) (new old : List ℕ) where
@@ -45,9 +45,6 @@ unfolding first
 first-listed [] = stands-first 0 []
 first-listed ((n ⇐ true) ∷ rules) = stands-first n (numbers rules)
 first-listed ((n ⇐ false) ∷ rules) = stands-later (first rules) n (numbers rules) (first-listed rules)
-
-never : {P : Type 0} (t : Bool) → t ≡ true → t ≡ false → P
-never t p q = absurd (let z : _≡_ {A = ℕ} 0 1 = cc in omega arith)
 
 -- a number that the table hasn't is never given
 pub first-unlisted : (rules : List Rule) (n : ℕ) → isIn n (numbers rules) ≡ false → first rules ≡ n → ⊥

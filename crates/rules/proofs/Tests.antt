@@ -2,8 +2,13 @@
 use mathlib.Core.Path.{_≡_, refl, sym, _∙_}
 use mathlib.Core.Logic.{_⊎_, inl, inr}
 use Prim.Native.Nat.{_≤_, _<_}
+use native.Mathlib.Omega.{arith}
 use borrow.Author.Tests.{leb-true, ltb-true, ltb-false, eqb-true, eqb-false, not-false, le-leb, lt-ltb, eq-eqb}
 use Rattle.rules.specs.Lists.{ℕ, Bool, true, false, _&&_, _||_, ltb, eqb}
+
+-- a test doesn't both hold and fail
+pub never : {P : Type 0} (t : Bool) → t ≡ true → t ≡ false → P
+never t p q = absurd (let z : _≡_ {A = ℕ} 0 1 = cc in omega arith)
 
 pub and-left : (a b : Bool) → a && b ≡ true → a ≡ true
 and-left true b e = refl
