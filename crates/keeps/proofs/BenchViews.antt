@@ -13,7 +13,7 @@ use Rattle.rules.specs.Form.{Form, plain}
 use Rattle.rules.specs.Steps.{joining, dealing, updating, stocking, selling, authenticating, settling, clearing, toppingUp, changes, effect, theBenchView}
 use Rattle.rules.specs.Verdicts.{verdict, step}
 use Rattle.rules.proofs.Tests.{never}
-use Rattle.rules.proofs.Stepping.{step-cases, step-changes}
+use Rattle.rules.proofs.Stepping.{step-cases}
 use Rattle.rules.proofs.Named.{Each}
 use Rattle.rules.proofs.ByKind.{IsKind, by-kind}
 use Rattle.rules.proofs.Shaken.{writesHandshake, comesTo, Shaken, changes-shake}
@@ -22,9 +22,9 @@ use Rattle.laws.proofs.Made.{made-amount, made-handshake, made-held, with-held,
 use Rattle.laws.proofs.Reflect.{sound-facts}
 use Rattle.laws.proofs.Asked.{no-use, record-shaped, held-none}
 use Rattle.laws.proofs.Books.{facts-at}
-use Rattle.laws.proofs.Places.{Inside, inside-below}
-use Rattle.laws.proofs.Changes.{at, lookup, lookup-each, at-long, all-at}
-use Rattle.keeps.proofs.Fits.{Regular, fits, changes-apart}
+use Rattle.laws.proofs.Places.{inside-below}
+use Rattle.laws.proofs.Changes.{at, lookup, lookup-each, at-long}
+use Rattle.keeps.proofs.Fits.{Regular, fits, stands, step-stands}
 
 -- ---- the kinds that write its balance and its tokens; `writesHandshake` are those that write the third
 abbrev pub writesBalance : ℕ → Bool
@@ -110,15 +110,9 @@ module _ (f : Form) (regular : Regular f) (strangers : Strangers f) (h : Hall) (
     long : length b ≡ words * records h
     long = regular .long h ts b (granted-good f h ts b e v)
 
-    stands : (q : Place) → Inside h q → at h (effect f h ts b e) q ≡ lookup (changes h b e f ts (e .kind)) (at h b) q
-    unfolding effect
-    stands =
-        all-at h (changes h b e f ts (e .kind)) b long (fits f regular h ts b e v)
-        (changes-apart f h ts b e (e .kind) (granted-kind f h ts b e v))
-
     granted-rest : (m : ℕ) → m < h .benches → Rest (e .kind) (at h b (BenchView m)) (at h (effect f h ts b e) (BenchView m))
     granted-rest m i =
-        rw (stands (BenchView m) i)
+        rw (stands f regular h ts b e v (BenchView m) i)
         (lookup-each h (Leaves (e .kind)) (at h b) (changes h b e f ts (e .kind)) (fits f regular h ts b e v)
         (changes-leave (e .kind) (granted-kind f h ts b e v) refl) (BenchView m) i (stays (e .kind) (at h b (BenchView m))))
 
@@ -143,10 +137,8 @@ module _ (f : Form) (regular : Regular f) (strangers : Strangers f) (h : Hall) (
         k i (changes-shake f h ts b e whole k i)
 
     pub handshake-comes : e .bench < h .benches → writesHandshake (e .kind) ≡ true → handshake (at h (step f h ts b e .cells) (BenchView (e .bench))) ≡ comesTo (e .kind)
-    unfolding effect
     handshake-comes i w =
-        ap (λ (x : List ℕ). handshake (at h x (BenchView (e .bench)))) (step-changes f h ts b e v refl)
-        ∙ ap handshake (stands (BenchView (e .bench)) i)
+        ap handshake (step-stands f regular h ts b e v refl (BenchView (e .bench)) i)
         ∙ comes (e .kind) (granted-kind f h ts b e v) (omega (arith, at-long h b long (BenchView (e .bench)) i)) w
 
   pub view-rest : (m : ℕ) → m < h .benches → Rest (e .kind) (at h b (BenchView m)) (at h (step f h ts b e .cells) (BenchView m))

@@ -10,15 +10,16 @@ use Rattle.rules.specs.Hall.{mostHeld, Place, Desk, Carnet, View, BenchView, Ti
 use Rattle.rules.specs.Records.{words, held, made, withAmount, recordAt}
 use Rattle.rules.specs.Tape.{Sell, Clear, TopUp, kindOf, usesBench, usesCustomer}
 use Rattle.rules.specs.Form.{Form, plain}
-use Rattle.rules.specs.Steps.{left, fresh, joining, dealing, updating, stocking, soldLine, selling, authenticating, settling, clearing, toppingUp, changes, theCarnet, theView, theLine}
-use Rattle.rules.specs.Verdicts.{verdict}
+use Rattle.rules.specs.Steps.{left, fresh, joining, dealing, updating, stocking, soldLine, selling, authenticating, settling, clearing, toppingUp, changes, effect, theCarnet, theView, theLine}
+use Rattle.rules.specs.Verdicts.{verdict, step}
 use Rattle.laws.proofs.Tokens.{without-short}
 use Rattle.laws.proofs.Made.{filled-long, made-long, with-long}
 use Rattle.laws.proofs.Reflect.{sound-facts}
 use Rattle.laws.proofs.Books.{held-few}
 use Rattle.laws.proofs.Places.{Inside}
+use Rattle.rules.proofs.Stepping.{step-changes}
 use Rattle.rules.proofs.Named.{Each, Named, changes-named}
-use Rattle.laws.proofs.Changes.{at, each-both, Fit, apart, at-long}
+use Rattle.laws.proofs.Changes.{at, each-both, Fit, apart, lookup, at-long, all-at}
 use Rattle.rules.proofs.ByKind.{IsKind, by-kind}
 use Rattle.rules.proofs.Granted.{granted-good, granted-kind, bench-inside, customer-inside, stock-few, update-room, sell-room}
 
@@ -111,6 +112,19 @@ fits f regular h ts b e v =
     (changes h b e f ts (e .kind))
     (changes-named f h ts b e (e .kind) (granted-kind f h ts b e v))
     (changes-long f h ts b e v (regular .long h ts b (granted-good f h ts b e v)) (regular .whole h ts b e v))
+
+-- so after a granted step each place has the record that the changes have for it, or else the one that it had
+module _ (f : Form) (regular : Regular f) (h : Hall) (ts b : List ℕ) (e : Entry) (v : verdict f h ts b e ≡ 0) where
+  pub stands : (q : Place) → Inside h q → at h (effect f h ts b e) q ≡ lookup (changes h b e f ts (e .kind)) (at h b) q
+  unfolding effect
+  stands =
+      all-at h (changes h b e f ts (e .kind)) b (regular .long h ts b (granted-good f h ts b e v)) (fits f regular h ts b e v)
+      (changes-apart f h ts b e (e .kind) (granted-kind f h ts b e v))
+
+  pub step-stands : {k : ℕ} → e .kind ≡ k → (q : Place) → Inside h q → at h (step f h ts b e .cells) q ≡ lookup (changes h b e f ts k) (at h b) q
+  unfolding effect
+  step-stands k q i =
+      ap (λ (x : List ℕ). at h x q) (step-changes f h ts b e v refl) ∙ stands q i ∙ ap (λ (x : ℕ). lookup (changes h b e f ts x) (at h b) q) k
 
 pub plain-regular : Regular plain
 unfolding soldLine held

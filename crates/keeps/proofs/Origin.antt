@@ -11,7 +11,7 @@ use Rattle.rules.specs.Hall.{Line, number}
 use Rattle.rules.specs.Records.{count, held, made}
 use Rattle.rules.specs.Tape.{Sell, kindOf}
 use Rattle.rules.specs.Form.{Form}
-use Rattle.rules.specs.Steps.{joining, dealing, updating, stocking, soldLine, selling, authenticating, settling, clearing, toppingUp, changes, effect, theCarnet, theLine}
+use Rattle.rules.specs.Steps.{joining, dealing, updating, stocking, soldLine, selling, authenticating, settling, clearing, toppingUp, changes, theCarnet, theLine}
 use Rattle.rules.specs.Verdicts.{verdict, step, steps}
 use Rattle.rules.specs.Sound.{emptyBook}
 use Rattle.rules.proofs.Tests.{below, parts}
@@ -19,11 +19,11 @@ use Rattle.rules.proofs.Stepping.{step-cases}
 use Rattle.rules.proofs.Along.{along}
 use Rattle.laws.proofs.Occurrences.{occ-append}
 use Rattle.laws.proofs.Places.{Inside, inside-below, samePlace}
-use Rattle.laws.proofs.Changes.{at, lookup, all-at}
+use Rattle.laws.proofs.Changes.{at, lookup}
 use Rattle.laws.proofs.Empty.{blank, empty-other}
 use Rattle.rules.proofs.ByKind.{IsKind, by-kind}
-use Rattle.rules.proofs.Granted.{granted-good, granted-kind}
-use Rattle.keeps.proofs.Fits.{Regular, fits, changes-apart}
+use Rattle.rules.proofs.Granted.{granted-kind}
+use Rattle.keeps.proofs.Fits.{Regular, stands}
 
 -- what each form shows of its lines: an empty one stands for nothing, a sale's tokens stand before the older ones, and the count is their number
 pub record Lines (f : Form) : Type 0 where
@@ -105,15 +105,11 @@ module _ (f : Form) (regular : Regular f) (line : Lines f) (h : Hall) (ts : List
 
   module _ (b : List ℕ) (e : Entry) where
     step-came : In (at h (step f h ts b e .cells) (Line m c)) → In (at h b (Line m c)) ⊎ Sale f h ts b e m c t
-    unfolding effect
     step-came =
         step-cases f h ts b e (λ b′. In (at h b′ (Line m c)) → In (at h b (Line m c)) ⊎ Sale f h ts b e m c t)
         (λ v i.
-        let is : IsKind (e .kind) = granted-kind f h ts b e v in
-        let stands : at h (effect f h ts b e) (Line m c) ≡ lookup (changes h b e f ts (e .kind)) (at h b) (Line m c) =
-        all-at h (changes h b e f ts (e .kind)) b (regular .long h ts b (granted-good f h ts b e v)) (fits f regular h ts b e v)
-        (changes-apart f h ts b e (e .kind) is) (Line m c) inside in
-        came b e v (e .kind) is refl (ap (λ (r : List ℕ). isIn t (f .tokens ts r)) (sym stands) ∙ i))
+        came b e v (e .kind) (granted-kind f h ts b e v) refl
+        (ap (λ (r : List ℕ). isIn t (f .tokens ts r)) (sym (stands f regular h ts b e v (Line m c) inside)) ∙ i))
         (λ i. inl i)
 
   pub origin : (es : List Entry) (b : List ℕ) → In (at h (steps f h ts b es .book) (Line m c)) → In (at h b (Line m c)) ⊎ Sold f h ts m c t b es

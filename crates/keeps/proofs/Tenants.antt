@@ -13,14 +13,14 @@ use Rattle.rules.specs.Tape.{Clear, kindOf, usesBench, usesCustomer}
 use Rattle.rules.specs.Form.{Form, plain}
 use Rattle.rules.specs.Steps.{settling, clearing, changes, theLine}
 use Rattle.rules.specs.Verdicts.{verdict, step, steps}
-use Rattle.rules.proofs.Stepping.{step-changes, sold-before}
-use Rattle.rules.proofs.Granted.{granted-good, granted-kind, bench-inside, customer-inside, sell-enough}
+use Rattle.rules.proofs.Stepping.{sold-before}
+use Rattle.rules.proofs.Granted.{granted-good, bench-inside, customer-inside, sell-enough}
 use Rattle.laws.proofs.Made.{made-held, amount-is, handshake-amount}
 use Rattle.laws.proofs.Reflect.{sound-facts}
 use Rattle.laws.proofs.Books.{full-at}
 use Rattle.laws.proofs.Places.{inside-below}
-use Rattle.laws.proofs.Changes.{at, lookup, at-long, all-at}
-use Rattle.keeps.proofs.Fits.{Regular, fits, clear-bench, changes-apart, plain-regular}
+use Rattle.laws.proofs.Changes.{at, lookup, at-long}
+use Rattle.keeps.proofs.Fits.{Regular, step-stands, clear-bench, plain-regular}
 use Rattle.keeps.proofs.Isolation.{SameBench, other-bench}
 use Rattle.keeps.proofs.Origin.{Lines, Sold, sold-there}
 
@@ -54,13 +54,7 @@ module _ (f : Form) (regular : Regular f) (h : Hall) (ts b : List ℕ) (e : Entr
       (handshake-amount 0 _ ∙ amount-is _ (at h b (BenchView (e .bench))) (omega (arith, at-long h b long (BenchView (e .bench)) m-in)))
 
   balance : amount (at h (step f h ts b e .cells) (BenchView (e .bench))) ≡ amount (at h b (BenchView (e .bench))) + length (f .tokens ts (theLine h b e))
-  balance =
-      ap (λ (x : List ℕ). amount (at h x (BenchView (e .bench)))) (step-changes f h ts b e v refl)
-      ∙ ap amount
-      (all-at h (changes h b e f ts (e .kind)) b long (fits f regular h ts b e v)
-      (changes-apart f h ts b e (e .kind) (granted-kind f h ts b e v)) (BenchView (e .bench)) m-in)
-      ∙ ap (λ (i : ℕ). amount (lookup (changes h b e f ts i) (at h b) (BenchView (e .bench)))) k
-      ∙ credits
+  balance = ap amount (step-stands f regular h ts b e v k (BenchView (e .bench)) m-in) ∙ credits
 
 pub tenants : (f : Form) → Regular f → Lines f → Tenants f
 tenants f regular line =
