@@ -18,19 +18,19 @@ static const struct counts RIGHT = {0, GS_BOOK_WORDS, GS_BOOK_WORDS, 0, 0, 0, GS
 
 enum { NUMBERS = 18 };
 enum tally {
-    PLAIN_STEPS, SLIP_STEPS, PLAIN_SOUND, SLIP_SOUND, OPENED, READER, WRITER, HANDSHAKES, CLEARS, TOP_UPS,
+    PLAIN_STEPS, SLIP_STEPS, PLAIN_SOUND, SLIP_SOUND, OPENED, READER, WRITER, STOCKS, HANDSHAKES, CLEARS, TOP_UPS,
     PLAIN_PLACES, SLIP_PLACES, WITHIN_SLIPS, ODD_SECONDS, TALLIES
 };
-enum { DESK_AUTHENTICATES = 8, CLEAR, TOP_UP };
+enum { STOCK = 5, DESK_AUTHENTICATES = 8, CLEAR, TOP_UP };
 
 static const struct {
     const char *name;
     uint32_t can; /* a bit for each number that can be answered */
 } ANSWERS[TALLIES] = {
     {"plain book", 0x3ffff}, {"slip book", 0x3ffff},   {"plain sound", 3},    {"slip sound", 3},
-    {"slips opened", 3},     {"reader", 0x1000d},      {"writer", 0x1000d},   {"handshakes", 0x2602f},
-    {"clears", 0x2806f},     {"top ups", 0xaf},        {"plain places", 7},   {"slip places", 7},
-    {"within slips", 6},     {"odd seconds", 0x10002},
+    {"slips opened", 3},     {"reader", 0x1000d},      {"writer", 0x1000d},   {"stocks", 0x4af},
+    {"handshakes", 0x2602f}, {"clears", 0x2806f},      {"top ups", 0xaf},     {"plain places", 7},
+    {"slip places", 7},      {"within slips", 6},      {"odd seconds", 0x10002},
 };
 static const enum tally STEPS[] = {PLAIN_STEPS, SLIP_STEPS}, SOUND[] = {PLAIN_SOUND, SLIP_SOUND};
 static const enum tally PLACES[] = {PLAIN_PLACES, SLIP_PLACES};
@@ -50,11 +50,14 @@ static void tell_place(enum tally tally, uint8_t place)
     tell(tally, place < 2 ? place : place < 32 ? 2 : place);
 }
 
-/* The two numbers of a step. The desk's authentications, clears and top ups are counted by themselves too, in this order:
-   other kinds get the same numbers, so the books' tallies wouldn't show it if one of these never got what it can get. */
+/* The two numbers of a step. Stocks, and in this order the desk's authentications, clears and top ups, are counted by
+   themselves too: other kinds get the same numbers, so the books' tallies wouldn't show it if one of these never got what
+   it can get. */
 static uint16_t tell_step(enum form form, uint8_t kind, uint16_t answer)
 {
     uint8_t verdict = GS_VERDICT(answer), second = GS_SECOND(answer);
+    if (kind == STOCK)
+        tell(STOCKS, verdict);
     if (kind >= DESK_AUTHENTICATES && kind <= TOP_UP)
         tell((enum tally)(HANDSHAKES + kind - DESK_AUTHENTICATES), verdict);
     if (tell(STEPS[form], verdict) == 15)
@@ -122,12 +125,16 @@ static struct counts with_tape(struct counts c, size_t records)
     return c;
 }
 
+enum { LAST_STOCKS = 34 }; /* of 33 tokens down to none */
+
 /* Draws the tape; answers the counts with its own. Once a list is dealt out most steps are refused, so a tape is mostly
-   short where the list is. */
+   short where the list is; now and then its last steps are stocks that deal the list out. */
 static struct counts lay_tape(struct counts c, int joining)
 {
     size_t records = draw(chance(20) ? 4 : chance(15) ? MOST_RECORDS + 1 : 20 + (c.tokens < 500 ? c.tokens : 500) * 3 / 4);
     draw_tape(LENT[HAND].tape, records, joining);
+    if (records >= LAST_STOCKS && chance(20))
+        draw_stocks(LENT[HAND].tape + 8 * (records - LAST_STOCKS), LAST_STOCKS);
     return with_tape(c, records);
 }
 
@@ -470,9 +477,9 @@ static void try_example(enum form form)
 /* The steps of two customers and a bench, and of one of each that never joins, and what they get: the numbers that a book
    grown from empty answers. Who they are is drawn. The two have joined with 59 and may have 2,000,000 together, so that one
    is topped up to more than anybody may join with, and trades on. The other's updates kill what waits in the line, and
-   further sales stand before it. In the end the first has 32 tokens, all of which wait, in two sales. */
+   further sales stand before it. In the end the first has 32 tokens, all of which wait, in two sales, and none is left. */
 enum { FIRST = 100, SECOND, NOBODY, BENCH, NO_BENCH };
-enum { TOUR_TOKENS = 86 }; /* one too few for the last update */
+enum { TOUR_TOKENS = 86 }; /* as many as are dealt in the end */
 #define DEAD_AT(place) (15 | (place) << 8)
 #define BY_BENCH(answer) {{7, BENCH, 0, 0, 0}, 1, answer}
 #define BY_DESK(answer) {{8, BENCH, 0, 0, 0}, 1, answer}
@@ -485,7 +492,7 @@ static const struct {
 } TOUR[] = {
     {{1, 0, FIRST, 0, 50}, 1, 0},  {{1, 0, FIRST, 0, 50}, 1, 4},     {{2, BENCH, 0, 0, 0}, 1, 0},
     {{1, 0, SECOND, 0, 9}, 1, 0},  {{4, 0, NOBODY, 0, 1}, 1, 5},     {{6, BENCH, FIRST, 0, 0}, 1, 6},
-    {{8, NO_BENCH, 0, 0, 0}, 1, 5}, CLEAR_OF(NOBODY, 5),             CLEAR_OF(FIRST, 6),
+    {{8, NO_BENCH, 0, 0, 0}, 1, 5}, {{5, NO_BENCH, 0, 0, 33}, 1, 5}, CLEAR_OF(NOBODY, 5), CLEAR_OF(FIRST, 6),
     {{3, BENCH, FIRST, 0, 0}, 1, 0}, {{3, BENCH, SECOND, 0, 0}, 1, 0}, {{1, 0, NOBODY, 0, 1000001}, 1, 7},
     {{4, 0, FIRST, 0, 51}, 1, 8},  {{4, 0, FIRST, 0, 33}, 1, 9},     {{4, 0, FIRST, 0, 17}, 1, 0},
     {{6, BENCH, FIRST, 0, 18}, 1, 11}, {{6, BENCH, FIRST, 0, 1}, 16, 0}, {{6, BENCH, FIRST, 0, 1}, 1, 12},
@@ -510,14 +517,20 @@ static const struct {
     {{6, BENCH, SECOND, 0, 1}, 1, 0}, CLEAR_OF(SECOND, DEAD_AT(1)),  {{4, 0, SECOND, 0, 2}, 1, 0},
     {{6, BENCH, SECOND, 0, 3}, 1, 0}, CLEAR_OF(SECOND, DEAD_AT(3)),
     BY_BENCH(0), CLEAR_OF(SECOND, 17), BY_DESK(0),
-    {{11, 0, 0, 0, 0}, 1, 2},      {{2, 8, 0, 0, 0}, 1, 3},          {{8, BENCH, 0, 0, 1}, 1, 2},
-    {{8, 8, 0, 0, 0}, 1, 3},       {{9, BENCH, FIRST, 1, 0}, 1, 2},  {{9, 8, FIRST, 0, 0}, 1, 3},
+    {{11, 0, 0, 0, 0}, 1, 2},      {{2, 8, 0, 0, 0}, 1, 3},          {{5, BENCH, 0, 1, 1}, 1, 2},
+    {{5, 8, 0, 0, 1}, 1, 3},       {{8, BENCH, 0, 0, 1}, 1, 2},      {{8, 8, 0, 0, 0}, 1, 3},
+    {{9, BENCH, FIRST, 1, 0}, 1, 2},  {{9, 8, FIRST, 0, 0}, 1, 3},
     {{10, 1, FIRST, 0, 1}, 1, 2},  {{10, 0, FIRST, 1, 1}, 1, 2},     {{10, 0, 16, 0, 1}, 1, 3},
     {{10, 0, NOBODY, 0, 2000000}, 1, 5}, {{10, 0, FIRST, 0, 4294967295}, 1, 7}, {{10, 0, FIRST, 0, 1999942}, 1, 7},
     {{10, 0, FIRST, 0, 1999941}, 1, 0}, {{10, 0, SECOND, 0, 1}, 1, 7}, {{10, 0, SECOND, 0, 0}, 1, 0},
     {{4, 0, FIRST, 0, 3}, 1, 0},   {{6, BENCH, FIRST, 0, 2}, 1, 0},  CLEAR_OF(FIRST, 0),
     {{10, 0, FIRST, 0, 1}, 1, 7},  {{4, 0, FIRST, 0, 30}, 1, 0},     {{6, BENCH, FIRST, 0, 3}, 1, 0},
-    {{6, BENCH, FIRST, 0, 29}, 1, 0}, {{4, 0, SECOND, 0, 1}, 1, 10},
+    {{6, BENCH, FIRST, 0, 29}, 1, 0},
+
+    /* Three are left. A stock of four is refused, and leaves the handshake. After one of three, no update that needs three
+       is granted, and no stock of one; 7 comes before 10. */
+    {{4, 0, SECOND, 0, 1}, 1, 10}, BY_BENCH(0), BY_DESK(0), STOCK_OF(4, 10), CLEAR_OF(SECOND, DEAD_AT(3)),
+    STOCK_OF(3, 0), CLEAR_OF(SECOND, 17), {{4, 0, SECOND, 0, 0}, 1, 10}, STOCK_OF(1, 10), STOCK_OF(33, 7),
 };
 
 static struct entry named(struct entry e, uint8_t bench, uint8_t customer)
@@ -577,6 +590,26 @@ static void try_words_3(enum form form, struct counts c, uint8_t bench, uint8_t 
         try_word_3(form, c, GS_BENCH_VIEW(bench), words[i], words[i] > 2);
         for (size_t other = 0; other < sizeof others / sizeof others[0]; other++)
             try_word_3(form, c, others[other], words[i], words[i] > 0);
+    }
+}
+
+/* How many are left, what a stock asks for, and what it gets. The till holds three already, which doesn't count. */
+static const uint8_t SHORT[][3] = {{0, 0, 0},  {0, 1, 10},   {0, 33, 7},  {3, 3, 0}, {3, 4, 10},
+                                   {3, 33, 7}, {31, 32, 10}, {32, 32, 0}, {32, 33, 7}};
+
+/* The tour's list goes on by so many tokens. Where the stock is refused, a clear finds the handshake. */
+static void try_short(enum form form, struct counts c, uint8_t bench, uint8_t customer)
+{
+    static uint32_t kept[BOOK_ROOM];
+    memcpy(kept, LENT[HAND].book, sizeof kept);
+    for (size_t i = 0; i < sizeof SHORT / sizeof SHORT[0]; i++) {
+        uint8_t number = SHORT[i][2];
+        c.tokens = TOUR_TOKENS + SHORT[i][0];
+        load_handshake(bench, 2);
+        agree("a stock", i, number, try_step(form, c, (struct entry){STOCK, bench, 0, 0, SHORT[i][1]}));
+        uint16_t answer = try_step(form, c, (struct entry){CLEAR, bench, customer, 0, 0});
+        agree("a clear after a stock", i, number == 0 ? 17 : 0, answer);
+        lend_book(kept);
     }
 }
 
@@ -644,22 +677,23 @@ static void try_unsound(enum form form, struct counts c)
     try_lengths(form, c, 1);
     tell(SOUND[form], both_sound(form, c));
     tell(OPENED, both_open(c));
-    for (uint8_t kind = DESK_AUTHENTICATES; kind <= TOP_UP; kind++)
+    for (uint8_t kind = STOCK; kind <= TOP_UP; kind++)
         agree("a step in an unsound book, of kind", kind, 1, try_step(form, c, (struct entry){kind, 0, 0, 0, 0}));
 }
 
 /* Every number that can be answered is, and is the one that documents 01 and 02 say: those of the tour, then 0 and 1 for
-   each word 3, then 14, then 15 with the places that only a loaded book has, 16 for other lengths, and 1 where the desk
-   isn't in use, or where no word could be higher. */
+   each word 3, then those of stocks by what is left, then 14, then 15 with the places that only a loaded book has, 16 for
+   other lengths, and 1 where the desk isn't in use, or where no word could be higher. */
 static void try_numbers(enum form form)
 {
     struct counts c = RIGHT;
     uint8_t bench = (uint8_t)draw(8), customer = (uint8_t)draw(16);
     lay_junk();
     c.tokens = TOUR_TOKENS;
-    draw_list(LENT[HAND].tokens, c.tokens);
+    draw_list(LENT[HAND].tokens, LIST_ROOM);
     c = try_tour(form, c, bench, customer);
     try_words_3(form, c, bench, customer);
+    try_short(form, c, bench, customer);
     try_exchanged(form, c, bench);
     try_lost(form, c, bench, customer);
     tell(OPENED, both_open(c));

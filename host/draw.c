@@ -67,14 +67,19 @@ static struct {
     uint8_t first_bench, first_customer;
 } parties;
 
-/* The last numbers of the hall are where a loop might end too early, so they are drawn more often than others. */
+/* The first of the parties that take part. The last numbers of the hall are where a loop might end too early, and 0 is what
+   a field that isn't used says, so they are drawn more often than others. */
+static uint8_t draw_first(size_t last)
+{
+    return (uint8_t)(chance(30) ? last : chance(30) ? 0 : draw(last + 1));
+}
+
 void draw_parties(void)
 {
     parties.benches = chance(10) ? 8 : 1 + draw(3);
     parties.customers = chance(10) ? 16 : 1 + draw(4);
-    size_t last_bench = 8 - parties.benches, last_customer = 16 - parties.customers;
-    parties.first_bench = (uint8_t)(chance(30) ? last_bench : draw(last_bench + 1));
-    parties.first_customer = (uint8_t)(chance(30) ? last_customer : draw(last_customer + 1));
+    parties.first_bench = draw_first(8 - parties.benches);
+    parties.first_customer = draw_first(16 - parties.customers);
 }
 
 static uint8_t any_bench(void)
@@ -141,8 +146,8 @@ static void add_joins(struct drawing *d)
     }
 }
 
-/* What comes between a handshake and its clear: a stock, some of them refused as too large, or one more authentication.
-   Where it is granted the clear isn't. */
+/* What comes between a handshake and its clear: a stock, some of them refused as above 32 or more than is left, or one
+   more authentication. Where it is granted the clear isn't. */
 static void add_late(struct drawing *d, uint8_t bench)
 {
     if (chance(50))
@@ -167,7 +172,7 @@ static void add_clear(struct drawing *d, uint8_t bench, uint8_t customer, size_t
 }
 
 /* Every line is cleared as a loaded book has it, before an update kills its tokens. Each bench first goes on from a
-   handshake that the book may have; where the list is dealt out, a stock would leave its till empty. */
+   handshake that the book may have; half of the times there are no stocks, which would replace the tills that it has. */
 static void add_clears(struct drawing *d)
 {
     size_t stocked = chance(50) ? 0 : 70;
@@ -330,6 +335,13 @@ void draw_sales(uint8_t *tape, size_t records)
         for (size_t sales = 1 + draw(4); sales > 0; sales--)
             add(&d, 6, any_bench(), customer, 1 + draw(6));
     }
+}
+
+void draw_stocks(uint8_t *tape, size_t records)
+{
+    struct drawing d = {tape, records, 0};
+    while (d.filled < records)
+        add(&d, 5, any_bench(), 0, records - d.filled - 1);
 }
 
 /* ---- books ---- */
@@ -569,11 +581,18 @@ static void bend_handshakes(uint32_t *book)
             record_of(book, view)[HANDSHAKE] = chance(50) ? 2 : (uint32_t)draw(chance(95) ? 3 : 5);
 }
 
+/* How many tokens of n are dealt: half of the times all but a few. */
+static size_t draw_dealt(size_t n)
+{
+    size_t few = chance(50) ? 3 : 40;
+    return chance(50) ? draw(n + 2) : n - draw(n < few ? n + 1 : few);
+}
+
 static void bend_by_list(enum form form, const uint32_t *tokens, size_t n, uint32_t *book)
 {
     switch (draw(5)) {
     case 0:
-        book[AMOUNT] = (uint32_t)(chance(50) ? n : draw(n + 2));
+        book[AMOUNT] = (uint32_t)draw_dealt(n);
         break;
     case 1:
         bend_more(form, tokens, n, book);

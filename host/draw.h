@@ -25,6 +25,10 @@ void draw_tape(uint8_t *tape, size_t records, int joining);
 /* A tape of updates, stocks and sales alone, after which what was bought waits, and some benches can authenticate. */
 void draw_sales(uint8_t *tape, size_t records);
 
+/* A tape of stocks, each of as many tokens as records follow it: where fewer are left, and the benches have joined, one asks for
+   one too many, the next for just what is left, and the last for nothing of nothing. */
+void draw_stocks(uint8_t *tape, size_t records);
+
 /* Any entry: mostly one that is well formed, or nearly. */
 struct entry draw_entry(void);
 

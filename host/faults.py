@@ -10,10 +10,10 @@ FAULTS = [
         "an order of verdicts: 10 before 9",
         """    if (kind == UPDATE && held + n > 32)
         return 9;
-    if (kind == UPDATE && held + n > left)
+    if (asked > left)
         return 10;
 """,
-        """    if (kind == UPDATE && held + n > left)
+        """    if (asked > left)
         return 10;
     if (kind == UPDATE && held + n > 32)
         return 9;
@@ -21,8 +21,41 @@ FAULTS = [
     ),
     (
         "a word not written: a stock isn't counted as dealt",
-        "    d->own[AMOUNT] += (uint32_t)count;\n",
+        "    d->own[AMOUNT] += n;\n",
         "",
+    ),
+    (
+        "a short stock: one of more than is left is dealt what is left",
+        "    verdict = judge_step(&d, e.kind, e.amount);\n",
+        """    if (e.kind == STOCK && e.amount <= 32 && e.amount > n - d.own[AMOUNT])
+        e.amount = (uint32_t)n - d.own[AMOUNT];
+    verdict = judge_step(&d, e.kind, e.amount);
+""",
+    ),
+    (
+        "a stock judged like an update: what the desk's view of the bench holds is asked for too",
+        "kind == STOCK ? n : 0;",
+        "kind == STOCK ? d->bench_view[COUNT] + n : 0;",
+    ),
+    (
+        "a field that isn't used: a stock asks for what customer 0 holds too",
+        "kind == STOCK ? n : 0;",
+        "kind == STOCK ? held + n : 0;",
+    ),
+    (
+        "a bound missed by one: a stock of just what is left is refused",
+        "if (asked > left)",
+        "if (asked > left || (kind == STOCK && n > 0 && n == left))",
+    ),
+    (
+        "a list dealt out: a stock of nothing is refused too",
+        "if (asked > left)",
+        "if (asked > left || (kind == STOCK && left == 0))",
+    ),
+    (
+        "an order of verdicts: 10 before 7",
+        "(kind == STOCK && n > 32)",
+        "(kind == STOCK && n > 32 && n <= left)",
     ),
     (
         "a slip judged by its first token when its line is cleared",
@@ -120,17 +153,17 @@ FAULTS = [
         "!money_fits(d->book, n + 1)",
     ),
     (
-        "a handshake lost: a stock that is refused takes it back",
+        "a handshake lost: a stock of more than is left takes it back",
         "    size_t second = verdict == 15 ? first_dead(&d) : 0;\n",
         """    size_t second = verdict == 15 ? first_dead(&d) : 0;
-    if (e.kind == STOCK)
+    if (e.kind == STOCK && verdict == 10)
         d.bench_view[HANDSHAKE] = NONE;
 """,
     ),
     (
         "a handshake kept: a stock doesn't take it back",
-        "(uint32_t)count;\n    d->bench_view[HANDSHAKE] = NONE;\n",
-        "(uint32_t)count;\n",
+        "    d->own[AMOUNT] += n;\n    d->bench_view[HANDSHAKE] = NONE;\n",
+        "    d->own[AMOUNT] += n;\n",
     ),
     (
         "a handshake used twice: the clear of an empty line leaves it",

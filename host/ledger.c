@@ -347,6 +347,7 @@ static size_t first_dead(const struct desk *d)
 static uint8_t judge_step(const struct desk *d, uint8_t kind, uint64_t n)
 {
     uint64_t held = d->customer_view[COUNT], left = d->n - d->own[AMOUNT];
+    uint64_t asked = kind == UPDATE ? held + n : kind == STOCK ? n : 0; /* of the list */
     uint32_t handshake = d->bench_view[HANDSHAKE];
     int authenticates = kind == BENCH_AUTHENTICATES || kind == DESK_AUTHENTICATES;
 
@@ -366,7 +367,7 @@ static uint8_t judge_step(const struct desk *d, uint8_t kind, uint64_t n)
         return 8;
     if (kind == UPDATE && held + n > 32)
         return 9;
-    if (kind == UPDATE && held + n > left)
+    if (asked > left)
         return 10;
     if (kind == SELL && n > d->carnet[COUNT])
         return 11;
@@ -412,10 +413,9 @@ static void update(const struct desk *d, uint32_t n)
 
 static void stock(const struct desk *d, uint32_t n)
 {
-    size_t left = d->n - d->own[AMOUNT], count = n < left ? n : left;
-    deal_to(d, d->till, count);
-    deal_to(d, d->bench_view, count);
-    d->own[AMOUNT] += (uint32_t)count;
+    deal_to(d, d->till, n);
+    deal_to(d, d->bench_view, n);
+    d->own[AMOUNT] += n;
     d->bench_view[HANDSHAKE] = NONE;
 }
 

@@ -42,8 +42,9 @@ VERDICTS = {
         "Top up the budget, or ask for less."),
     9: ("the desk's view of the customer would hold more than 32",
         "Have the benches clear what they took, or ask for less."),
-    10: ("the list has too few tokens left to refresh the carnet and add to it",
-         "Make the list longer at its end, or clear first, so that fewer have to be dealt anew."),
+    10: ("the list has fewer tokens left than the step needs: a stock those that it asks for, an update those that it "
+         "exchanges and adds",
+         "Make the list longer at its end, or ask for less. An update exchanges fewer where the benches clear before it."),
     11: ("the carnet has fewer tokens",
          "Sell fewer, or let the customer update first."),
     12: ("the line would hold more than 32 tokens, or has 16 sales already",

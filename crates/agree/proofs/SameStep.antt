@@ -72,7 +72,7 @@ module _ (h : Hall) (ts b : List ℕ) (e : Entry) (ok : SlipSound h ts b) where
         opens = update-reads h ts b o e (sym (before 0 (omega arith))) (sym (before (number h (View (e .customer))) (omega arith)));
       }
 
-  pub stocks : e .bench < h .benches → SlipFine h ts b (dealt b + min (e .amount) (left ts b)) (stocking h b e ts) (stocking h o e ts)
+  pub stocks : e .bench < h .benches → SlipFine h ts b (dealt b + e .amount) (stocking h b e ts) (stocking h o e ts)
   unfolding stocking dealing
   stocks m =
       record {

@@ -113,6 +113,27 @@ unshaken =
           ∷ []);
     }
 
+-- ---- a stock of four with three left is refused: the bench keeps its till, and the desk still follows on its authentication
+short : Case
+short =
+    record {
+      tape =
+          2 ∷ 1 ∷ 0 ∷ 0 ∷ 0 ∷ 0 ∷ 0 ∷ 0
+          ∷ 5 ∷ 1 ∷ 0 ∷ 0 ∷ 9 ∷ 0 ∷ 0 ∷ 0
+          ∷ 7 ∷ 1 ∷ 0 ∷ 0 ∷ 0 ∷ 0 ∷ 0 ∷ 0
+          ∷ 5 ∷ 1 ∷ 0 ∷ 0 ∷ 4 ∷ 0 ∷ 0 ∷ 0
+          ∷ 8 ∷ 1 ∷ 0 ∷ 0 ∷ 0 ∷ 0 ∷ 0 ∷ 0
+          ∷ [];
+      listing =
+          48 ∷ 32 ∷ 50 ∷ 32 ∷ 48 ∷ 10
+          ∷ 49 ∷ 32 ∷ 53 ∷ 32 ∷ 48 ∷ 10
+          ∷ 50 ∷ 32 ∷ 55 ∷ 32 ∷ 48 ∷ 10
+          ∷ 51 ∷ 32 ∷ 53 ∷ 32 ∷ 49 ∷ 48 ∷ 10
+          ∷ 52 ∷ 32 ∷ 56 ∷ 32 ∷ 48 ∷ 10
+          ∷ 77 ∷ 32 ∷ 49 ∷ 32 ∷ 48 ∷ 32 ∷ 55 ∷ 32 ∷ 48 ∷ 10
+          ∷ [];
+    }
+
 -- ---- a case, walked in both books
 abbrev Walked : Case → Type 0
 Walked c = (walk plain mainHall tokens (c .tape) ≡ c .listing) × (walk slip mainHall tokens (c .tape) ≡ c .listing)
@@ -129,9 +150,13 @@ unshaken-walked : Walked unshaken
 unfolding all tokens grown granted unshaken
 unshaken-walked = (refl, refl)
 
+short-walked : Walked short
+unfolding all tokens short
+short-walked = (refl, refl)
+
 -- ---- all of them
 table : List Case
-table = worked ∷ dead ∷ unshaken ∷ []
+table = worked ∷ dead ∷ unshaken ∷ short ∷ []
 
 abbrev AllWalked : List Case → Type 0
 AllWalked [] = Unit {0}
@@ -139,4 +164,4 @@ AllWalked (c ∷ cs) = Walked c × AllWalked cs
 
 cases : AllWalked table
 unfolding table
-cases = (worked-walked, (dead-walked, (unshaken-walked, tt)))
+cases = (worked-walked, (dead-walked, (unshaken-walked, (short-walked, tt))))

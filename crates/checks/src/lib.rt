@@ -59,14 +59,17 @@ pub fn update(view: u32, budget: u32, held: u32, left: usize, n: u32) -> u8
     0
 }
 
-pub fn stock(view: u32, n: u32) -> u8
-    ensures { λ r. ⌜ r ≡ first (stockRules view n) ⌝ }
+pub fn stock(view: u32, left: usize, n: u32) -> u8
+    ensures { λ r. ⌜ r ≡ first (stockRules view left n) ⌝ }
 {
     if view != 1 {
         return 5;
     }
     if 32 < n {
         return 7;
+    }
+    if left < n as usize {
+        return 10;
     }
     0
 }

@@ -169,15 +169,15 @@ module _ (h : Hall) (ts b : List ℕ) (e : Entry) (ok : Book h ts b) where
         within = simp made-use (omega (arith, ok .1 .money));
       }
 
-  pub stock-fine : m < h .benches → used (BenchView m) ≡ 1 → e .amount ≤ mostHeld
+  pub stock-fine : m < h .benches → used (BenchView m) ≡ 1 → e .amount ≤ mostHeld → e .amount ≤ left ts b
       → Each (Fit h) (stocking h b e ts)
-      → Fine h ts b (dealt b + min (e .amount) (left ts b)) (min (e .amount) (left ts b)) 0 (stocking h b e ts)
+      → Fine h ts b (dealt b + e .amount) (e .amount) 0 (stocking h b e ts)
   unfolding stocking dealing
-  stock-fine i there small fits =
-      let n : ℕ = min (e .amount) (left ts b) in
+  stock-fine i there small enough fits =
+      let n : ℕ = e .amount in
       let d : ℕ = dealt b + n in
       let new : List ℕ = fresh ts b n in
-      let size : length new ≡ n = fresh-long ts b n (omega arith) in
+      let size : length new ≡ n = fresh-long ts b n enough in
       record {
         deals = refl;
         desk = amount-is d (at h b Desk) (long Desk tt);

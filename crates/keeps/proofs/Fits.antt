@@ -5,12 +5,12 @@ use native.Mathlib.Omega.{arith}
 use lib.ListN.{length-append, length-take, length-drop}
 use Rattle.rules.specs.declared.Hall.{Hall}
 use Rattle.rules.specs.declared.Entry.{Entry}
-use Rattle.rules.specs.Lists.{ℕ, _*_, min, true, List, [], _++_, length, take, drop, occ, without}
+use Rattle.rules.specs.Lists.{ℕ, _*_, true, List, [], _++_, length, take, drop, occ, without}
 use Rattle.rules.specs.Hall.{mostHeld, Place, Desk, Carnet, View, BenchView, Till, Line, number, records}
 use Rattle.rules.specs.Records.{words, held, made, withAmount, recordAt}
 use Rattle.rules.specs.Tape.{Sell, Clear, TopUp, kindOf, usesBench, usesCustomer}
 use Rattle.rules.specs.Form.{Form, plain}
-use Rattle.rules.specs.Steps.{left, fresh, joining, dealing, updating, stocking, soldLine, selling, authenticating, settling, clearing, toppingUp, changes, effect, theCarnet, theView, theLine}
+use Rattle.rules.specs.Steps.{fresh, joining, dealing, updating, stocking, soldLine, selling, authenticating, settling, clearing, toppingUp, changes, effect, theCarnet, theView, theLine}
 use Rattle.rules.specs.Verdicts.{verdict, step}
 use Rattle.laws.proofs.Tokens.{without-short}
 use Rattle.laws.proofs.Made.{filled-long, made-long, with-long}
@@ -85,9 +85,7 @@ module _ (f : Form) (h : Hall) (ts b : List ℕ) (e : Entry) where
           join-bench = λ k. (none 0, (none 0, tt));
           open-line = λ k. (none 0, tt);
           update = λ k. (new 0 _ (update-room f h ts b e v k), (new _ _ (update-room f h ts b e v k), (same _ Desk tt, tt)));
-          stock = λ k.
-              let l : min (e .amount) (left ts b) ≤ mostHeld = omega (arith, stock-few f h ts b e v k) in
-              (new 0 (min (e .amount) (left ts b)) l, (new _ (min (e .amount) (left ts b)) l, (same _ Desk tt, tt)));
+          stock = λ k. (new 0 _ (stock-few f h ts b e v k), (new _ _ (stock-few f h ts b e v k), (same _ Desk tt, tt)));
           sell = λ k. (few 0 0 (e .amount) _, (sold k, tt));
           bench-authenticates = λ k. (few 0 0 1 _, (few _ 1 1 _, tt));
           desk-authenticates = λ k. (few 0 0 1 _, (few _ 2 1 _, tt));

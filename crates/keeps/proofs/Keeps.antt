@@ -21,7 +21,7 @@ use Rattle.laws.proofs.Places.{inside-below}
 use Rattle.rules.proofs.Named.{Each}
 use Rattle.laws.proofs.Changes.{Fit, apart}
 use Rattle.rules.proofs.ByKind.{by-kind}
-use Rattle.rules.proofs.Granted.{granted-good, granted-kind, bench-inside, customer-inside, new-customer, new-bench, has-bench, has-customer, has-line, join-budget, stock-few, update-budget, update-room, update-left, sell-enough, sell-room, sell-few, clear-lives, top-up-within}
+use Rattle.rules.proofs.Granted.{granted-good, granted-kind, bench-inside, customer-inside, new-customer, new-bench, has-bench, has-customer, has-line, join-budget, stock-few, update-budget, update-room, update-left, stock-left, sell-enough, sell-room, sell-few, clear-lives, top-up-within}
 use Rattle.keeps.proofs.Fits.{changes-apart, fits, plain-regular}
 use Rattle.keeps.proofs.Fine.{Fine, fine-money, fine-keeps}
 use Rattle.keeps.proofs.FineKinds.{join-customer-fine, join-bench-fine, open-line-fine, update-fine, stock-fine, sell-fine, authenticate-fine, clear-fine, top-up-fine}
@@ -81,7 +81,7 @@ module _ (h : Hall) (ts b : List ℕ) (e : Entry) (v : verdict plain h ts b e �
             (_, (_, open-line-fine h ts b e ok (bench 3 q refl) (customer 3 q refl) (hasC 3 q (omega arith) refl) (hasT 3 q (omega arith) refl)));
         update = λ q w.
             (_, (_, update-fine h ts b e ok (customer 4 q refl) (hasV 4 q (omega arith) refl) (update-budget plain h ts b e v q) (update-room plain h ts b e v q) (update-left plain h ts b e v q) w));
-        stock = λ q w. (_, (_, stock-fine h ts b e ok (bench 5 q refl) (hasB 5 q (omega arith) refl) (stock-few plain h ts b e v q) w));
+        stock = λ q w. (_, (_, stock-fine h ts b e ok (bench 5 q refl) (hasB 5 q (omega arith) refl) (stock-few plain h ts b e v q) (stock-left plain h ts b e v q) w));
         sell = λ q w.
             let i : (e .bench < h .benches) × (e .customer < h .customers) = (bench 6 q refl, customer 6 q refl) in
             let few = sell-few plain h ts b e v q (line-at h ts b ok (number h (Line (e .bench) (e .customer))) (omega arith) (inside-below h (Line (e .bench) (e .customer)) i) .few) in

@@ -6,5 +6,6 @@ pub mod Isolation
 pub mod Origin
 pub mod Tenants
 pub mod Nothing
+pub mod InFull
 pub mod BenchViews
 pub mod Handshake

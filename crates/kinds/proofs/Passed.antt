@@ -21,9 +21,14 @@ module _ (used budget held left n : ℕ) (granted : first (updateRules used budg
   unfolding updateRules
   update-left = ltb-false _ _ (passed (updateRules used budget held left n) refl granted 10)
 
-pub stock-few : (used n : ℕ) → first (stockRules used n) ≡ 0 → n ≤ mostHeld
-unfolding stockRules
-stock-few used n granted = ltb-false _ _ (passed (stockRules used n) refl granted 7)
+module _ (used left n : ℕ) (granted : first (stockRules used left n) ≡ 0) where
+  pub stock-few : n ≤ mostHeld
+  unfolding stockRules
+  stock-few = ltb-false _ _ (passed (stockRules used left n) refl granted 7)
+
+  pub stock-left : n ≤ left
+  unfolding stockRules
+  stock-left = ltb-false _ _ (passed (stockRules used left n) refl granted 10)
 
 pub top-up-within : (used total most n : ℕ) → first (topUpRules used total most n) ≡ 0 → total + n ≤ most
 unfolding topUpRules

@@ -1,5 +1,6 @@
 -- The table of verdict numbers, for a record that numbers 1 to 3 let pass, is its kind's own chain; and so is the step, with its second number.
 use mathlib.Core.Path.{_≡_, refl, sym, ap, _∙_, subst}
+use lib.Dec.{leb·suc-zero}
 use Rattle.rules.specs.declared.Hall.{Hall}
 use Rattle.rules.specs.declared.Entry.{Entry}
 use Rattle.rules.specs.Lists.{ℕ, Bool, true, false, _||_, List, drop, occ}
@@ -12,6 +13,8 @@ use Rattle.rules.proofs.Answering.{first-past}
 use Rattle.kinds.specs.Chains.{joinCustomerRules, joinBenchRules, openRules, updateRules, stockRules, lineRules, saleRules, shakenRules, clearRules, compareRules, benchRules, deskRules, topUpRules}
 use Rattle.kinds.specs.Kinds.{joinCustomer, joinBench, openLine, update, stock, benchAuthenticates, deskAuthenticates, knownLine, sell, clear, topUp, numbered, Passed}
 
+-- where the kind is known the other kinds' tests compute away, but for a last `|| false`, and number 10 where the list is asked for
+-- none (`leb·suc-zero`)
 or-no : (a : Bool) → a || false ≡ a
 or-no true = refl
 or-no false = refl
@@ -49,15 +52,15 @@ module _ (f : Form) (h : Hall) (ts b : List ℕ) where
 
   pub step-join-customer : (e : Entry) → Passed f h ts b e → e .kind ≡ 1 → step f h ts b e ≡ numbered f h ts b e (joinCustomer h b e)
   unfolding later table entryRules first occ changes joinCustomer joinCustomerRules
-  step-join-customer = of-its-kind (joinCustomer h b) 1 (λ e. answers-alike _ _ _ _ b (simp or-no refl) refl)
+  step-join-customer = of-its-kind (joinCustomer h b) 1 (λ e. answers-alike _ _ _ _ b (simp (or-no, leb·suc-zero) refl) refl)
 
   pub step-join-bench : (e : Entry) → Passed f h ts b e → e .kind ≡ 2 → step f h ts b e ≡ numbered f h ts b e (joinBench h b e)
   unfolding later table entryRules first occ changes joinBench joinBenchRules
-  step-join-bench = of-its-kind (joinBench h b) 2 (λ e. answers-alike _ _ _ _ b (simp or-no refl) refl)
+  step-join-bench = of-its-kind (joinBench h b) 2 (λ e. answers-alike _ _ _ _ b (simp (or-no, leb·suc-zero) refl) refl)
 
   pub step-open-line : (e : Entry) → Passed f h ts b e → e .kind ≡ 3 → step f h ts b e ≡ numbered f h ts b e (openLine h b e)
   unfolding later table entryRules first occ changes openLine openRules
-  step-open-line = of-its-kind (openLine h b) 3 (λ e. answers-alike _ _ _ _ b refl refl)
+  step-open-line = of-its-kind (openLine h b) 3 (λ e. answers-alike _ _ _ _ b (simp leb·suc-zero refl) refl)
 
   pub step-update : (e : Entry) → Passed f h ts b e → e .kind ≡ 4 → step f h ts b e ≡ numbered f h ts b e (update h b e ts)
   unfolding later table entryRules first occ changes update updateRules
@@ -69,20 +72,20 @@ module _ (f : Form) (h : Hall) (ts b : List ℕ) where
 
   pub step-sell : (e : Entry) → Passed f h ts b e → e .kind ≡ 6 → step f h ts b e ≡ numbered f h ts b e (sell h b e f)
   unfolding later table entryRules first occ changes sell knownLine lineRules saleRules
-  step-sell = of-its-kind (λ e. sell h b e f) 6 (λ e. answers-alike _ _ _ _ b refl refl)
+  step-sell = of-its-kind (λ e. sell h b e f) 6 (λ e. answers-alike _ _ _ _ b (simp leb·suc-zero refl) refl)
 
   pub step-bench-authenticates : (e : Entry) → Passed f h ts b e → e .kind ≡ 7 → step f h ts b e ≡ numbered f h ts b e (benchAuthenticates h b e)
   unfolding later table entryRules first occ changes benchAuthenticates benchRules compareRules
-  step-bench-authenticates = of-its-kind (benchAuthenticates h b) 7 (λ e. answers-alike _ _ _ _ b (simp or-no refl) refl)
+  step-bench-authenticates = of-its-kind (benchAuthenticates h b) 7 (λ e. answers-alike _ _ _ _ b (simp (or-no, leb·suc-zero) refl) refl)
 
   pub step-desk-authenticates : (e : Entry) → Passed f h ts b e → e .kind ≡ 8 → step f h ts b e ≡ numbered f h ts b e (deskAuthenticates h b e)
   unfolding later table entryRules first occ changes deskAuthenticates deskRules compareRules
-  step-desk-authenticates = of-its-kind (deskAuthenticates h b) 8 (λ e. answers-alike _ _ _ _ b (simp or-no refl) refl)
+  step-desk-authenticates = of-its-kind (deskAuthenticates h b) 8 (λ e. answers-alike _ _ _ _ b (simp (or-no, leb·suc-zero) refl) refl)
 
   pub step-clear : (e : Entry) → Passed f h ts b e → e .kind ≡ 9 → step f h ts b e ≡ numbered f h ts b e (clear h b e f ts)
   unfolding later table entryRules first occ changes clear knownLine lineRules shakenRules clearRules
-  step-clear = of-its-kind (λ e. clear h b e f ts) 9 (λ e. answers-alike _ _ _ _ b refl refl)
+  step-clear = of-its-kind (λ e. clear h b e f ts) 9 (λ e. answers-alike _ _ _ _ b (simp leb·suc-zero refl) refl)
 
   pub step-top-up : (e : Entry) → Passed f h ts b e → e .kind ≡ 10 → step f h ts b e ≡ numbered f h ts b e (topUp h b e)
   unfolding later table entryRules first occ changes topUp topUpRules
-  step-top-up = of-its-kind (topUp h b) 10 (λ e. answers-alike _ _ _ _ b refl refl)
+  step-top-up = of-its-kind (topUp h b) 10 (λ e. answers-alike _ _ _ _ b (simp leb·suc-zero refl) refl)

@@ -24,9 +24,9 @@ updateRules view budget held left n =
     ∷ (10 ⇐ ltb left (held + n))
     ∷ []
 
--- the word on use of the desk's view of a bench, and n
-unfoldable pub stockRules : ℕ → ℕ → List Rule
-stockRules view n = (5 ⇐ not (eqb view 1)) ∷ (7 ⇐ ltb mostHeld n) ∷ []
+-- the word on use of the desk's view of a bench; the tokens left in the list; n
+unfoldable pub stockRules : ℕ → ℕ → ℕ → List Rule
+stockRules view left n = (5 ⇐ not (eqb view 1)) ∷ (7 ⇐ ltb mostHeld n) ∷ (10 ⇐ ltb left n) ∷ []
 
 -- for a sale or a clear: the words on use of the desk's views of the bench and the customer, and of the line
 unfoldable pub lineRules : ℕ → ℕ → ℕ → List Rule

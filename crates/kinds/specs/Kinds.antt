@@ -36,7 +36,7 @@ module _ (h : Hall) (b : List ℕ) (e : Entry) where
       judged h b (updateRules (inUse (theView h b e)) (amount (theView h b e)) (count (theView h b e)) (left ts b) (e .amount)) (updating h b e ts)
 
   unfoldable pub stock : List ℕ → Answer
-  stock ts = judged h b (stockRules (inUse (theBenchView h b e)) (e .amount)) (stocking h b e ts)
+  stock ts = judged h b (stockRules (inUse (theBenchView h b e)) (left ts b) (e .amount)) (stocking h b e ts)
 
   unfoldable pub benchAuthenticates : Answer
   benchAuthenticates =

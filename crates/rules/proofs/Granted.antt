@@ -12,7 +12,7 @@ use Rattle.rules.specs.Records.{inUse, amount, count, sales, handshake, 
 use Rattle.rules.specs.Sound.{total, mostTotal}
 use Rattle.rules.specs.Tape.{JoinCustomer, JoinBench, OpenLine, Update, Stock, Sell, DeskAuthenticates, Clear, TopUp, kindOf, is, usesBench, usesCustomer, wellFormed, inHall, entryRules}
 use Rattle.rules.specs.Form.{Form}
-use Rattle.rules.specs.Steps.{left, theCarnet, theView, theBenchView, theTill, theLine}
+use Rattle.rules.specs.Steps.{left, theCarnet, theView, theBenchView, theTill, theLine, asked}
 use Rattle.rules.specs.Verdicts.{used, waiting, table, verdict}
 use Rattle.rules.proofs.Tests.{below, and-false, or-left, or-right, parts}
 use Rattle.rules.proofs.Answering.{testOf, passed}
@@ -132,7 +132,7 @@ module _ (f : Form) (h : Hall) (ts b : List ℕ) (e : Entry) (v : verdict f h ts
       ltb-false _ _ (and-false _ _
       (or-right (is e JoinCustomer && ltb mostBudget (e .amount) || is e Stock && ltb mostHeld (e .amount)) _ (tests 7)) (eq-eqb _ _ k))
 
-  -- 8 to 10
+  -- 8 and 9
   module _ (k : e .kind ≡ kindOf Update) where
     pub update-budget : e .amount ≤ amount (theView h b e)
     unfolding table entryRules
@@ -142,9 +142,16 @@ module _ (f : Form) (h : Hall) (ts b : List ℕ) (e : Entry) (v : verdict f h ts
     unfolding table entryRules
     update-room = ltb-false _ _ (and-false _ _ (tests 9) (eq-eqb _ _ k))
 
-    pub update-left : count (theView h b e) + e .amount ≤ left ts b
-    unfolding table entryRules
-    update-left = ltb-false _ _ (and-false _ _ (tests 10) (eq-eqb _ _ k))
+  -- 10
+  pub asked-left : asked h b e ≤ left ts b
+  unfolding table entryRules
+  asked-left = ltb-false _ _ (tests 10)
+
+  pub update-left : e .kind ≡ kindOf Update → count (theView h b e) + e .amount ≤ left ts b
+  update-left k = rw k at asked-left
+
+  pub stock-left : e .kind ≡ kindOf Stock → e .amount ≤ left ts b
+  stock-left k = rw k at asked-left
 
   -- 11 and 12
   module _ (k : e .kind ≡ kindOf Sell) where

@@ -1,8 +1,8 @@
 -- Steps when granted: the records that a step writes, in order, each made from the book before the step.
-use Rattle.rules.specs.Lists.{ℕ, _+_, _-_, min, List, [], _∷_, _++_, length, take, drop, getD, without}
+use Rattle.rules.specs.Lists.{ℕ, _+_, _-_, min, cond, List, [], _∷_, _++_, length, take, drop, getD, without}
 use Rattle.rules.specs.Hall.{Hall, Place, Desk, Carnet, View, BenchView, Till, Line, number}
 use Rattle.rules.specs.Records.{amount, count, sales, held, filled, made, withAmount, withHandshake, recordAt, put}
-use Rattle.rules.specs.Tape.{Entry}
+use Rattle.rules.specs.Tape.{Entry, Update, Stock, is}
 use Rattle.rules.specs.Form.{Form}
 
 -- a place and its new record
@@ -54,16 +54,19 @@ module _ (h : Hall) (b : List ℕ) (e : Entry) where
   abbrev pub theLine : List ℕ
   theLine = recordAt (number h (Line (e .bench) (e .customer))) b
 
+  -- ---- what a step asks the list for: an update for the view's count anew and n more, a stock for n, any other for none
+  abbrev pub asked : ℕ
+  asked = cond (is e Update) (count theView + e .amount) (cond (is e Stock) (e .amount) 0)
+
   -- ---- the kinds that are neither a join nor an open
   -- the view's count anew, whatever the carnet holds, and n more, which the budget pays for
   unfoldable pub updating : List ℕ → List Change
   updating ts =
       dealing ts b (Carnet (e .customer)) (View (e .customer)) (amount theView - e .amount) (count theView + e .amount)
 
-  -- n, or what the list still has
+  -- n, whatever the till holds
   unfoldable pub stocking : List ℕ → List Change
-  stocking ts =
-      dealing ts b (Till (e .bench)) (BenchView (e .bench)) (amount theBenchView) (min (e .amount) (left ts b))
+  stocking ts = dealing ts b (Till (e .bench)) (BenchView (e .bench)) (amount theBenchView) (e .amount)
 
   -- newest sale first; one of no tokens is not counted
   unfoldable pub soldLine : Form → List ℕ

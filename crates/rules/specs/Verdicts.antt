@@ -6,7 +6,7 @@ use Rattle.rules.specs.Records.{inUse, amount, count, sales, handshake, 
 use Rattle.rules.specs.Sound.{total, mostTotal}
 use Rattle.rules.specs.Tape.{Entry, JoinCustomer, JoinBench, OpenLine, Update, Stock, Sell, BenchAuthenticates, DeskAuthenticates, Clear, TopUp, kindOf, is, usesBench, usesCustomer, entryRules, entries}
 use Rattle.rules.specs.Form.{Form}
-use Rattle.rules.specs.Steps.{left, theCarnet, theView, theBenchView, theTill, theLine, effect}
+use Rattle.rules.specs.Steps.{left, theCarnet, theView, theBenchView, theTill, theLine, asked, effect}
 use Rattle.rules.specs.declared.Reply.{Reply}
 
 abbrev pub used : List ℕ → Bool
@@ -40,7 +40,7 @@ module _ (f : Form) (h : Hall) (ts b : List ℕ) (e : Entry) where
   deadAt = firstAbsent (held (theView h b e)) waiting
 
   -- the first of these that applies is the verdict, by its place and not by its number
-  -- 2 and 3 are those of the tape record by itself
+  -- 2 and 3 are those of the tape record by itself; 10 is an update's and a stock's, since no other asks the list for any
   unfoldable pub table : List Rule
   table =
       let n = e .amount in
@@ -61,7 +61,7 @@ module _ (f : Form) (h : Hall) (ts b : List ℕ) (e : Entry) where
       ⇐ is e JoinCustomer && ltb mostBudget n || is e Stock && ltb mostHeld n || is e TopUp && ltb (mostTotal h at) (total h at + n))
       ∷ (8 ⇐ is e Update && ltb (amount view) n)
       ∷ (9 ⇐ is e Update && ltb mostHeld (count view + n))
-      ∷ (10 ⇐ is e Update && ltb (left ts b) (count view + n))
+      ∷ (10 ⇐ ltb (left ts b) (asked h b e))
       ∷ (11 ⇐ is e Sell && ltb (count carnet) n)
       ∷ (12 ⇐ is e Sell && (ltb mostHeld (count line + n) || ltb 0 n && eqb (sales line) mostSales))
       ∷ (13 ⇐ authenticates e && (eqb (count till) 0 || eqb (count benchView) 0))

@@ -19,7 +19,6 @@ use rules::Entry;
 use rules::Hall;
 use rules::Reply;
 use sound::money;
-use tokens::searching;
 
 // A verdict that no second number goes with: every step's but a clear's that meets a dead token.
 pub fn alone(verdict: u8) -> Reply
@@ -109,7 +108,7 @@ pub fn update(h: Hall, tokens: &[u32], book: &mut [u32], e: Entry) -> u8
     0
 }
 
-// As many as are asked for, or what the list still has. A handshake is void from then on.
+// As many as are asked for, whatever the till holds. A handshake is void from then on.
 pub fn stock(h: Hall, tokens: &[u32], book: &mut [u32], e: Entry) -> u8
     requires { ⌜ Placed h (now book) e 5 × Listed (now tokens) (now book) ⌝ }
     ensures { λ r. ⌜ Gives (stock h (now (book .entry)) e (now (tokens .entry))) r (now (book .exit)) ⌝ }
@@ -119,12 +118,11 @@ pub fn stock(h: Hall, tokens: &[u32], book: &mut [u32], e: Entry) -> u8
     let used = book::word_of(book, view, 0);
     let balance = book::word_of(book, view, 1);
     let left = tokens_left(tokens, book);
-    let refused = checks::stock(used, e.amount);
+    let refused = checks::stock(used, left, e.amount);
     if refused != 0 {
         return refused;
     }
-    let n = searching::smaller(e.amount as usize, left);
-    changes::deal(tokens, book, own, view, balance, n);
+    changes::deal(tokens, book, own, view, balance, e.amount as usize);
     0
 }
 

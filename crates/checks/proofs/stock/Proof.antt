@@ -1,4 +1,4 @@
--- The two tests of the table, in its order.
+-- The three tests of the table, in its order.
 use Rattle.checks.proofs.Tables.{table}
 use Rattle.kinds.specs.Chains.{stockRules}
 use Rattle.checks.proofs.stock.Statement.{statement}
@@ -16,5 +16,9 @@ returns-3 : tie.Need-returns-3
 unfolding stockRules
 returns-3 c = search table
 
+returns-4 : tie.Need-returns-4
+unfolding stockRules
+returns-4 c = search table
+
 pub stock-spec : {M : Type 1} → statement M
-stock-spec = tie.close (tie.spec returns returns-2 returns-3)
+stock-spec = tie.close (tie.spec returns returns-2 returns-3 returns-4)

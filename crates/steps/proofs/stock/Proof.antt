@@ -1,8 +1,8 @@
--- The view's word on use and the number asked for decide; then till and view get fresh tokens, as many as are asked for or what the list still has.
-use mathlib.Core.Path.{_≡_, refl, sym, ap, _∙_}
+-- The view's word on use, the number asked for and the list decide; then till and view get fresh tokens, as many as are asked for.
+use mathlib.Core.Path.{_≡_, refl, sym, _∙_}
 use Prim.Native.Nat.{_≤_, _<_}
 use native.Mathlib.Omega.{arith}
-use Rattle.rules.specs.Lists.{ℕ, min, occ}
+use Rattle.rules.specs.Lists.{ℕ, occ}
 use Rattle.rules.specs.Hall.{mostHeld, BenchView, Till}
 use Rattle.rules.specs.Answers.{first}
 use Rattle.rules.specs.Records.{inUse, amount}
@@ -11,8 +11,8 @@ use Rattle.kinds.specs.Chains.{stockRules}
 use Rattle.changes.specs.Found.{Party}
 use Rattle.kinds.specs.Kinds.{stock}
 use Rattle.steps.proofs.Found.{bench-in, desk-stands, dealable, party}
-use Rattle.steps.proofs.Answered.{refused, granted, word-at, as-dealt}
-use Rattle.kinds.proofs.Passed.{stock-few}
+use Rattle.steps.proofs.Answered.{refused, granted, of-words, word-at, as-dealt}
+use Rattle.kinds.proofs.Passed.{stock-few, stock-left}
 use borrow.Author.Needs.{needs}
 use Rattle.steps.proofs.stock.Statement.{statement}
 use Rattle.steps.proofs.stock.Tie as tie
@@ -65,39 +65,31 @@ same-length : tie.Need-same-length
 same-length c = search needs
 
 verdict : (c : tie.After-stock) → let s = started (c .before) .args in
-    c .stock .result ≡ first (stockRules (inUse (theBenchView (s .h) (s .book .now) (s .e))) (s .e .amount))
+    c .stock .result ≡ first (stockRules (inUse (theBenchView (s .h) (s .book .now) (s .e))) (left (s .tokens .now) (s .book .now)) (s .e .amount))
 unfolding inUse
 verdict c =
-    let s = started (c .before) .args in
     let read = used (c .before) in
-    c .stock .ensures
-    ∙ ap (λ (u : ℕ). first (stockRules u (s .e .amount))) (word-at (s .book .now) 0 (numbered read .bench-view .ensures) (read .word-of .ensures))
+    of-words (λ (u l n _ _ : ℕ). first (stockRules u l n)) {d = 0} {e = 0} (c .stock .ensures)
+    (word-at (started (c .before) .args .book .now) 0 (numbered read .bench-view .ensures) (read .word-of .ensures))
+    (c .before .tokens-left .ensures)
+    refl refl refl
 
 returns : tie.Need-returns
 unfolding stock
 returns c = refused _ _ _ _ (verdict (c .before)) (c .if1 .taken)
 
-cast-smaller : tie.Need-cast-smaller
-cast-smaller c = search needs
-
-smaller-requires : tie.Need-smaller-requires
-smaller-requires c κs = search needs
-
-abbrev at-tokens-left : tie.After-smaller → tie.After-tokens-left
-at-tokens-left c = c .before .before .before .before
-
--- as many as are asked for, or what the list still has
-as-asked : (c : tie.After-smaller) → let s = started (at-tokens-left c) .args in
-    c .smaller .result ≡ min (s .e .amount) (left (s .tokens .now) (s .book .now))
-as-asked c =
-    let s = started (at-tokens-left c) .args in
-    c .smaller .ensures ∙ ap (min (s .e .amount)) (at-tokens-left c .tokens-left .ensures)
-
+-- what the chain has let pass
 few : (c : tie.Else1) → started (c .before .before) .args .e .amount ≤ mostHeld
-few c = stock-few _ _ (sym (c .before .stock .ensures) ∙ c .if1 .left)
+few c = stock-few _ _ _ (sym (c .before .stock .ensures) ∙ c .if1 .left)
 
-abbrev at-else1 : tie.After-deal-arg → tie.Else1
-at-else1 c = c .before .before .before
+there : (c : tie.Else1) → let s = started (c .before .before) .args in s .e .amount ≤ left (s .tokens .now) (s .book .now)
+there c = omega (arith, c .before .before .tokens-left .ensures, stock-left _ _ _ (sym (c .before .stock .ensures) ∙ c .if1 .left))
+
+cast-deal : tie.Need-cast-deal
+cast-deal c = search needs
+
+abbrev at-else1 : tie.After-struct-known → tie.Else1
+at-else1 c = c .before .before
 
 deal-requires : tie.Need-deal-requires
 deal-requires c κs =
@@ -105,27 +97,22 @@ deal-requires c κs =
     let read = passed .before .before in
     let s = started read in
     let at = numbered (used read) in
-    dealable _ _ _ _ (s .pre .0) _ (s .pre .1) (known at) (omega (arith, at .before .till .ensures)) (omega (arith, at .bench-view .ensures)) _ (omega (arith, as-asked (c .before)))
-    (omega (arith, as-asked (c .before), few passed))
+    dealable _ _ _ _ (s .pre .0) _ (s .pre .1) (known at) (omega (arith, at .before .till .ensures)) (omega (arith, at .bench-view .ensures)) _ (there passed) (few passed)
 
 same-length-2 : tie.Need-same-length-2
 same-length-2 c = search needs
 
-abbrev at-smaller : tie.After-slice-known2 → tie.After-smaller
-at-smaller c = c .before .before .before .before
-
 returns-2 : tie.Need-returns-2
 unfolding stock stocking amount
 returns-2 c =
-    let asked = at-smaller c in
-    let passed = asked .before .before in
+    let passed = at-else1 (c .before .before .before) in
     let read = passed .before .before in
     let n = numbered (used read) in
     let s = begun n .args in
     granted _ _ _ _ (verdict (passed .before)) _ (passed .if1 .left)
     (as-dealt _ _ (Till (s .e .bench)) (BenchView (s .e .bench)) (n .before .till .ensures) (n .bench-view .ensures) _
     (word-at (s .book .now) 1 (n .bench-view .ensures) (read .before .before .word-of2 .ensures))
-    (as-asked asked)
+    refl
     (c .before .before .deal .ensures))
 
 pub stock-spec : {M : Type 1} → statement M
@@ -140,8 +127,7 @@ stock-spec =
     stock-requires
     same-length
     returns
-    cast-smaller
-    smaller-requires
+    cast-deal
     deal-requires
     same-length-2
     returns-2)
