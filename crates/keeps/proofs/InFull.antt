@@ -6,7 +6,7 @@ use borrow.Author.Tests.{eq-eqb}
 use Rattle.rules.specs.declared.Hall.{Hall}
 use Rattle.rules.specs.declared.Entry.{Entry}
 use Rattle.rules.specs.Lists.{ℕ, _+_, _-_, true, eqb, List, occ}
-use Rattle.rules.specs.Hall.{Desk, Carnet, View, BenchView, Till}
+use Rattle.rules.specs.Hall.{Place, Desk, Carnet, View, BenchView, Till}
 use Rattle.rules.specs.Records.{amount, count, held, made, withAmount}
 use Rattle.rules.specs.Tape.{Update, Stock, kindOf, usesBench, usesCustomer}
 use Rattle.rules.specs.Form.{Form}
@@ -16,6 +16,7 @@ use Rattle.rules.proofs.ByKind.{IsKind, by-kind}
 use Rattle.rules.proofs.Granted.{granted-good, granted-kind, bench-inside, customer-inside, asked-left}
 use Rattle.laws.proofs.Made.{made-count, made-held, amount-is}
 use Rattle.laws.proofs.Books.{fresh-long}
+use Rattle.laws.proofs.Places.{Inside}
 use Rattle.laws.proofs.Changes.{at, lookup, at-long}
 use Rattle.keeps.proofs.Fits.{Regular, step-stands}
 
@@ -51,13 +52,15 @@ module _ (f : Form) (regular : Regular f) (h : Hall) (ts b : List ℕ) (e : Entr
         top-up = λ k. rw k (omega arith);
       }
 
-  -- what a dealing writes
-  held-whole : (a : ℕ) {r : List ℕ} → r ≡ made a 0 (fresh ts b (asked h b e)) → Holds ts b (asked h b e) r
-  held-whole a q =
+  -- a record that a dealing wrote, at its place
+  held-whole : {k : ℕ} → e .kind ≡ k → (a : ℕ) (p : Place) → Inside h p → lookup (changes h b e f ts k) (at h b) p ≡ made a 0 (fresh ts b (asked h b e))
+      → Holds ts b (asked h b e) (at h (step f h ts b e .cells) p)
+  held-whole k a p i new =
       let n : ℕ = asked h b e in
+      rw (step-stands f regular h ts b e v k p i ∙ new)
       record {
-        counts = ap count q ∙ made-count a 0 (fresh ts b n) ∙ fresh-long ts b n (asked-left f h ts b e v);
-        tokens = ap held q ∙ made-held a 0 (fresh ts b n);
+        counts = made-count a 0 (fresh ts b n) ∙ fresh-long ts b n (asked-left f h ts b e v);
+        tokens = made-held a 0 (fresh ts b n);
       }
 
   pub in-full : InFull h ts b e (step f h ts b e .cells)
@@ -67,14 +70,10 @@ module _ (f : Form) (regular : Regular f) (h : Hall) (ts b : List ℕ) (e : Entr
         deals = ap amount (step-stands f regular h ts b e v refl Desk tt) ∙ desk-says (e .kind) (granted-kind f h ts b e v) refl;
         update = λ k.
             let i : e .customer < h .customers = customer-inside f h ts b e v (ap usesCustomer k) in
-            let here : eqb (e .customer) (e .customer) ≡ true = eq-eqb (e .customer) (e .customer) refl in (
-              held-whole 0 (step-stands f regular h ts b e v k (Carnet (e .customer)) i ∙ rw (here, k) refl),
-              held-whole (amount (theView h b e) - e .amount) (step-stands f regular h ts b e v k (View (e .customer)) i ∙ rw (here, k) refl),
-            );
+            let here : eqb (e .customer) (e .customer) ≡ true = eq-eqb (e .customer) (e .customer) refl in
+            (held-whole k 0 (Carnet (e .customer)) i (rw (here, k)), held-whole k (amount (theView h b e) - e .amount) (View (e .customer)) i (rw (here, k)));
         stock = λ k.
             let i : e .bench < h .benches = bench-inside f h ts b e v (ap usesBench k) in
-            let here : eqb (e .bench) (e .bench) ≡ true = eq-eqb (e .bench) (e .bench) refl in (
-              held-whole 0 (step-stands f regular h ts b e v k (Till (e .bench)) i ∙ rw (here, k) refl),
-              held-whole (amount (theBenchView h b e)) (step-stands f regular h ts b e v k (BenchView (e .bench)) i ∙ rw (here, k) refl),
-            );
+            let here : eqb (e .bench) (e .bench) ≡ true = eq-eqb (e .bench) (e .bench) refl in
+            (held-whole k 0 (Till (e .bench)) i (rw (here, k)), held-whole k (amount (theBenchView h b e)) (BenchView (e .bench)) i (rw (here, k)));
       }
