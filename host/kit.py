@@ -1,4 +1,4 @@
-"""What host/test and host/bench share: the proved library, and C by the kit's compiler and linker."""
+"""What host/test, host/bench and host/stack share: the proved library, and C by the kit's compiler and linker."""
 import hashlib, os, pathlib, subprocess, sys
 
 ROOT = pathlib.Path(__file__).resolve().parent.parent
@@ -68,6 +68,11 @@ def linked(made, *objects):
     """The program of some object files and the library."""
     done([ON / "bin/rattle-link", "--target", TARGET, "--toolchain", TOOLCHAIN, "-o", made, *objects, ARCHIVE])
     return made
+
+
+def program(room, *names):
+    """The program of some C files of host/, called as the first of them, and the library."""
+    return linked(room / names[0], *(compiled(room, HOST / f"{name}.c") for name in names))
 
 
 def command(program, *words):

@@ -1,14 +1,15 @@
-// The one writer of records, each written as a part of the book; the writer of a single word; and the empty book.
+// Records written, each as a part of the book: whole, copied, or in its first words; a single word; and the empty book.
 ghost use mathlib.Core.Path.{_≡_};
 ghost use mathlib.Core.List.{_∷_, _++_};
 ghost use Prim.Native.Nat.{_+_, _*_, _-_, _≤_, _<_};
-ghost use lib.ListN.{length, drop, replicate};
+ghost use lib.ListN.{length, take, drop, replicate};
 ghost use Rattle.rules.specs.Answers.{Gives};
 ghost use Rattle.rules.specs.Hall.{mainHall, mostHeld};
-ghost use Rattle.rules.specs.Records.{words, filled, made, withWord, recordAt, put};
+ghost use Rattle.rules.specs.Records.{words, cells, filled, made, withWord, recordAt, put};
 ghost use Rattle.rules.specs.Bytes.{makeEmpty};
 use rules::Hall;
 use tokens::laying;
+use tokens::moving;
 
 // Every word 0.
 pub fn wipe(part: &mut [u32])
@@ -21,7 +22,7 @@ pub fn wipe(part: &mut [u32])
     }
 }
 
-fn write_head(rec: &mut [u32], used: u32, amount: u32, count: u32, word3: u32)
+pub fn write_head(rec: &mut [u32], used: u32, amount: u32, count: u32, word3: u32)
     requires { ⌜ 4 ≤ length (now rec) ⌝ }
     ensures { λ _. ⌜ now (rec .exit) ≡ used ∷ amount ∷ count ∷ word3 ∷ drop 4 (now (rec .entry)) ⌝ }
 {
@@ -31,14 +32,13 @@ fn write_head(rec: &mut [u32], used: u32, amount: u32, count: u32, word3: u32)
     rec[3] = word3;
 }
 
-// The cells that are filled, and zeros over what stood behind them.
+// The cells that are filled over zeros: a record has as many cells as any other, so that all of them are wiped at once.
 fn write_cells(cells: &mut [u32], new: &[u32])
     requires { ⌜ length (now new) ≤ length (now cells) ⌝ }
     ensures { λ _. ⌜ now (cells .exit) ≡ now (new .entry) ++ replicate (length (now (cells .entry)) - length (now (new .entry))) 0 ⌝ }
 {
+    wipe(cells);
     laying::lay(cells, new);
-    let n = new.len();
-    wipe(&mut cells[n..]);
 }
 
 // The one record writer.
@@ -48,6 +48,16 @@ pub fn write_record(rec: &mut [u32], used: u32, amount: u32, count: u32, word3: 
 {
     write_head(rec, used, amount, count, word3);
     write_cells(&mut rec[4..], cells);
+}
+
+// A record filled from the first n of its own cells.
+pub fn cut_record(rec: &mut [u32], amount: u32, count: u32, word3: u32, n: usize)
+    requires { ⌜ (length (now rec) ≡ words) × (n ≤ mostHeld) ⌝ }
+    ensures { λ _. ⌜ now (rec .exit) ≡ filled 1 amount count word3 (take n (cells (now (rec .entry)))) ⌝ }
+{
+    write_head(rec, 1, amount, count, word3);
+    let end = 4 + n;
+    wipe(&mut rec[end..]);
 }
 
 // Record k, lent to the writer as a part from the book's middle.
@@ -77,13 +87,12 @@ pub fn put_made(book: &mut [u32], k: usize, amount: u32, word3: u32, tokens: &[u
     put_record(book, k, 1, amount, n, word3, tokens);
 }
 
-// Record k, in use, from all of its 32 cells at once: nothing is left behind them to wipe, so that a caller who has laid
-// its tokens over a zeroed scratch record saves the copy of an unknown length and the wiping.
-pub fn put_whole(book: &mut [u32], k: usize, amount: u32, count: u32, word3: u32, cells: &[u32])
-    requires { ⌜ (words * k + words ≤ length (now book)) × (length (now cells) ≡ mostHeld) ⌝ }
-    ensures { λ _. ⌜ now (book .exit) ≡ put k (1 ∷ amount ∷ count ∷ word3 ∷ now (cells .entry)) (now (book .entry)) ⌝ }
+// Record `to` becomes what record `from` is.
+pub fn copy_record(book: &mut [u32], from: usize, to: usize)
+    requires { ⌜ (words * from + words ≤ length (now book)) × (words * to + words ≤ length (now book)) ⌝ }
+    ensures { λ _. ⌜ now (book .exit) ≡ put to (recordAt from (now (book .entry))) (now (book .entry)) ⌝ }
 {
-    put_record(book, k, 1, amount, count, word3, cells);
+    moving::move_forth(book, 36 * from, 36, 36 * to);
 }
 
 // Word w of record k alone, where it stands.

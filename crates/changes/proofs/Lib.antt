@@ -1,3 +1,4 @@
 pub mod Written
-pub mod Scratch
+pub mod Kept
+pub mod Cells
 pub mod Determined

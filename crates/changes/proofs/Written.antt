@@ -5,10 +5,12 @@ use native.Mathlib.Omega.{arith}
 use lib.ListN.{length-take, length-drop}
 use Rattle.rules.specs.Lists.{ℕ, _+_, _*_, _-_, List, length, take, drop}
 use Rattle.rules.specs.Hall.{mostHeld}
-use Rattle.rules.specs.Records.{words, made, withWord, recordAt, put}
+use Rattle.rules.specs.Records.{words, filled, made, withWord, recordAt, put}
 use Rattle.rules.specs.Steps.{dealt, fresh}
 use Rattle.laws.proofs.Blocks.{block-same, block-again, block-other, block-long}
 use Rattle.laws.proofs.Made.{made-long, with-long}
+use Rattle.tokens.specs.Marks.{unmarked}
+use Rattle.tokens.proofs.marking.Closing.{unmarked-short}
 
 -- a record written over a book that is known, made from what is known
 pub written : (k a a₁ s : ℕ) (xs xs₁ b b₁ new : List ℕ) → new ≡ put k (made a₁ s xs₁) b₁ → a₁ ≡ a → xs₁ ≡ xs → b₁ ≡ b
@@ -44,12 +46,31 @@ module _ (k j a s : ℕ) (xs b new : List ℕ) (e : new ≡ put k (made a s xs) 
   pub earlier-stays : j < k → recordAt j new ≡ recordAt j b
   earlier-stays h = other-stays (λ q. omega arith)
 
+-- a record made, copied, and given its amount in the copy
+pub copied : (k j a : ℕ) (xs b b₁ b₂ b₃ : List ℕ) → b₁ ≡ put k (made 0 0 xs) b → words * k + words ≤ length b → words * j + words ≤ length b₁ → length xs ≤ mostHeld
+    → b₂ ≡ put j (recordAt k b₁) b₁ → b₃ ≡ put j (withWord 1 a (recordAt j b₂)) b₂ → b₃ ≡ put j (made a 0 xs) b₁
+unfolding withWord made filled
+copied k j a xs b b₁ b₂ b₃ e₁ fits fits₁ l e₂ e₃ =
+    let own : recordAt k b₁ ≡ made 0 0 xs = ap (recordAt k) e₁ ∙ block-same words k (made 0 0 xs) b (made-long 0 0 xs l) fits in
+    let twice : b₂ ≡ put j (made 0 0 xs) b₁ = e₂ ∙ ap (λ (r : List ℕ). put j r b₁) own in
+    let there : recordAt j b₂ ≡ made 0 0 xs = ap (recordAt j) twice ∙ block-same words j (made 0 0 xs) b₁ (made-long 0 0 xs l) fits₁ in
+    e₃
+    ∙ ap (λ (r : List ℕ). put j (withWord 1 a r) b₂) there
+    ∙ ap (put j (made a 0 xs)) twice
+    ∙ block-again words j (made 0 0 xs) b₁ (made-long 0 0 xs l) fits₁ (made a 0 xs)
+
 -- the part of the token list that code lends
 pub next : (d n : ℕ) (ts b : List ℕ) → d ≡ dealt b → take (d + n - d) (drop d ts) ≡ fresh ts b n
 next d n ts b e = let q : d + n - d ≡ n = omega arith in rw (q, e)
 
-pub next-size : (d n : ℕ) (ts b : List ℕ) → d ≡ dealt b → dealt b + n ≤ length ts → n ≡ length (take (d + n - d) (drop d ts))
-next-size d n ts b e l = simp (length-take, length-drop) (omega (arith, e, l))
+pub next-few : (d n : ℕ) (ts : List ℕ) → n ≤ mostHeld → length (take (d + n - d) (drop d ts)) ≤ mostHeld
+next-few d n ts l = simp length-take (omega (arith, l))
 
 pub fresh-few : (ts b : List ℕ) (n : ℕ) → n ≤ mostHeld → length (fresh ts b n) ≤ mostHeld
 fresh-few ts b n l = simp length-take (omega (arith, l))
+
+pub dropped-few : (n : ℕ) (t : List ℕ) → length t ≤ mostHeld → length (drop n t) ≤ mostHeld
+dropped-few n t l = simp length-drop (omega (arith, l))
+
+pub unmarked-few : (marks : ℕ) (t : List ℕ) → length t ≤ mostHeld → length (unmarked marks t) ≤ mostHeld
+unmarked-few marks t l = omega (arith, l, unmarked-short marks t)

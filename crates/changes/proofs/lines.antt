@@ -1,3 +1,3 @@
-pub mod Gathered
 pub mod Sold
+pub mod Seeking
 pub mod Determined

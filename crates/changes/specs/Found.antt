@@ -1,9 +1,16 @@
--- What a step has found out before it moves tokens: each record stands in the book, and each sum fits its word.
+-- What a step has found out before it moves tokens: each record stands in the book and is as a sound one, and each sum fits its
+-- word.
 use Prim.Native.Nat.{_≤_, _<_}
-use Rattle.rules.specs.Lists.{ℕ, _+_, _*_, List, length}
+use mathlib.Core.Path.{_≡_}
+use Rattle.rules.specs.Lists.{ℕ, _+_, _*_, true, List, length, drop, allZero}
 use Rattle.rules.specs.Hall.{mostTokens, mostHeld}
-use Rattle.rules.specs.Records.{words, amount, recordAt}
+use Rattle.rules.specs.Records.{words, amount, count, cells, recordAt}
 use Rattle.rules.specs.Steps.{dealt}
+
+-- a record that counts no more tokens than it has cells, and nothing stands behind them
+pub record Neat (r : List ℕ) : Type 0 where
+  pub few : count r ≤ mostHeld
+  pub past : allZero (drop (count r) (cells r)) ≡ true
 
 -- a party's own record and the desk's view of it
 pub record Party (b : List ℕ) (own view : ℕ) : Type 0 where
@@ -23,10 +30,12 @@ pub record Enough (ts b : List ℕ) (own view n : ℕ) : Type 0 where
 pub record Bench (b : List ℕ) (till view : ℕ) : Type 0 where
   pub apart : view < till
   pub till-stands : words * till + words ≤ length b
+  pub till-neat : Neat (recordAt till b)
+  pub view-neat : Neat (recordAt view b)
 
--- a line, behind the views of its customer and its bench, and a balance that the tokens gone may be added to
-pub record Account (b : List ℕ) (view bench line : ℕ) (gone : List ℕ) : Type 0 where
+-- a line, behind the views of its customer and its bench, and a balance that the line's tokens may be added to
+pub record Account (b : List ℕ) (view bench line : ℕ) : Type 0 where
   pub views-apart : view < bench
   pub line-apart : bench < line
   pub line-stands : words * line + words ≤ length b
-  pub fits : amount (recordAt bench b) + length gone < 4294967296
+  pub fits : amount (recordAt bench b) + count (recordAt line b) < 4294967296

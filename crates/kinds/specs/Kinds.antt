@@ -1,10 +1,10 @@
 -- A step, one kind at a time, where numbers 1 to 3 let the record pass: the kind's own chain of checks, and what it changes.
 use mathlib.Core.Path.{_≡_}
-use Prim.Native.Nat.{_≤_}
-use Rattle.rules.specs.Lists.{ℕ, _*_, true, List, [], _∷_, _++_, length, getD}
+use Prim.Native.Nat.{_≤_, _<_}
+use Rattle.rules.specs.Lists.{ℕ, _*_, true, List, [], _∷_, _++_, length, drop, getD, allZero}
 use Rattle.rules.specs.declared.Hall.{Hall}
 use Rattle.rules.specs.declared.Entry.{Entry}
-use Rattle.rules.specs.Hall.{mostTokens, Carnet, View, BenchView, Till, Line, records}
+use Rattle.rules.specs.Hall.{mostTokens, mostHeld, Carnet, View, BenchView, Till, Line, number, records}
 use Rattle.rules.specs.Answers.{Rule, first, Answer, answer}
 use Rattle.rules.specs.Records.{words, inUse, amount, count, sales, handshake, cells, made, recordAt}
 use Rattle.rules.specs.Sound.{total, mostTotal}
@@ -94,3 +94,8 @@ pub record Passed (f : Form) (h : Hall) (ts b : List ℕ) (e : Entry) : Type 0 w
 pub record Listed (ts b : List ℕ) : Type 0 where
   pub short : length ts ≤ mostTokens
   pub dealt-few : dealt b ≤ length ts
+
+-- and a book whose records, but for lines, count no more tokens than they have cells, with nothing behind them
+pub record Tidy (h : Hall) (b : List ℕ) : Type 0 where
+  pub few : (k : ℕ) → k < number h (Line 0 0) → count (recordAt k b) ≤ mostHeld
+  pub past : (k : ℕ) → k < number h (Line 0 0) → allZero (drop (count (recordAt k b)) (cells (recordAt k b))) ≡ true

@@ -1,5 +1,6 @@
--- Blocks of n words in one list: what stands in block k, after block k was put or one of its words changed, and a list by its blocks.
+-- Blocks of n words in one list: what stands in block k, after block k was put or one of its words changed, a list by its blocks, and two blocks put in either order.
 use mathlib.Core.Path.{_≡_, sym, ap, _∙_}
+use mathlib.Core.List.{append-assoc}
 use mathlib.Core.Logic.{⊎-elim}
 use Prim.Native.Nat.{_≤_, _<_}
 use native.Mathlib.Nat.{mul-le-mul-left}
@@ -132,3 +133,43 @@ module _ (n m : ℕ) (a b : List ℕ) (long : length a ≡ n * m) where
       let e : n * (m + j) ≡ n * m + n * j = omega arith in
       ap (λ (i : ℕ). take n (drop i (a ++ b))) e
       ∙ ap (take n) (sym (drop-drop (n * j) (n * m) (a ++ b)) ∙ ap (drop (n * j)) (drop-at a b (n * m) long))
+
+-- ---- two blocks put in either order
+put-between : (n k : ℕ) (p x q r : List ℕ) → length p ≡ n * k → length x ≡ n → putBlock n k r (p ++ (x ++ q)) ≡ p ++ (r ++ q)
+unfolding putBlock
+put-between n k p x q r lp lx =
+    ap (λ (y : List ℕ). y ++ (r ++ drop (n * k + n) (p ++ (x ++ q)))) (take-at p (x ++ q) (n * k) lp)
+    ∙ ap (λ (y : List ℕ). p ++ (r ++ y))
+    (sym (drop-drop n (n * k) (p ++ (x ++ q))) ∙ ap (drop n) (drop-at p (x ++ q) (n * k) lp) ∙ drop-at x q n lx)
+
+module _ (n k j : ℕ) (r s : List ℕ) (lr : length r ≡ n) (ls : length s ≡ n) where
+  swap-parts : (p x c d e : List ℕ) → length p ≡ n * k → length x ≡ n → length p + n + length c ≡ n * j → length d ≡ n
+      → putBlock n j r (putBlock n k s (p ++ (x ++ (c ++ (d ++ e))))) ≡ putBlock n k s (putBlock n j r (p ++ (x ++ (c ++ (d ++ e)))))
+  swap-parts p x c d e lp lx lc ld =
+      let later : (y : List ℕ) → length y ≡ n → putBlock n j r (p ++ (y ++ (c ++ (d ++ e)))) ≡ p ++ (y ++ (c ++ (r ++ e))) =
+      λ y ly.
+      let size : length (p ++ (y ++ c)) ≡ n * j = simp length-append (omega arith) in
+      let joined : (z : List ℕ) → p ++ (y ++ (c ++ z)) ≡ (p ++ (y ++ c)) ++ z = λ z. simp append-assoc in
+      ap (putBlock n j r) (joined (d ++ e)) ∙ put-between n j (p ++ (y ++ c)) d e r size ld ∙ sym (joined (r ++ e)) in
+      ap (putBlock n j r) (put-between n k p x (c ++ (d ++ e)) s lp lx)
+      ∙ later s ls
+      ∙ sym (put-between n k p x (c ++ (r ++ e)) s lp lx)
+      ∙ sym (ap (putBlock n k s) (later x lx))
+
+  pub block-swap : (b : List ℕ) → k < j → n * j + n ≤ length b → putBlock n j r (putBlock n k s b) ≡ putBlock n k s (putBlock n j r b)
+  block-swap b l fits =
+      let h : n * k + n ≤ n * j = omega (arith, mul-le-mul-left n l) in
+      let m : ℕ = n * j - (n * k + n) in
+      let rest : List ℕ = drop (n * k) b in
+      let tail : List ℕ = drop n rest in
+      let parts : take (n * k) b ++ (take n rest ++ (take m tail ++ (take n (drop m tail) ++ drop n (drop m tail)))) ≡ b =
+      ap (λ (z : List ℕ). take (n * k) b ++ (take n rest ++ (take m tail ++ z))) (take-append-drop n (drop m tail))
+      ∙ ap (λ (z : List ℕ). take (n * k) b ++ (take n rest ++ z)) (take-append-drop m tail)
+      ∙ ap (λ (z : List ℕ). take (n * k) b ++ z) (take-append-drop n rest)
+      ∙ take-append-drop (n * k) b in
+      rw parts at
+      (swap-parts (take (n * k) b) (take n rest) (take m tail) (take n (drop m tail)) (drop n (drop m tail))
+      (simp length-take (omega arith))
+      (simp (length-take, length-drop) (omega arith))
+      (simp (length-take, length-drop) (omega arith))
+      (simp (length-take, length-drop) (omega arith)))

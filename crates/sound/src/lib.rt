@@ -26,7 +26,7 @@ pub fn is_good_list(list: &[u32]) -> bool
 
 // Each of the first n records by itself, with d tokens dealt.
 pub fn are_good(h: Hall, list: &[u32], book: &[u32], d: usize, n: usize) -> bool
-    requires { ⌜ (h .customers ≤ 64) × (h .benches ≤ 64) × (words * n ≤ length (now book)) ⌝ }
+    requires { ⌜ words * n ≤ length (now book) ⌝ }
     ensures { λ r. ⌜ r ≡ every (λ k. recordGood h (now (list .entry)) d k (recordAt k (now (book .entry)))) (range 0 n) ⌝ }
 {
     let mut k = 0;

@@ -1,6 +1,5 @@
 // What soundness asks of a record by itself. Inner, all of them: the record is one of a book whose length was tested.
 ghost use mathlib.Core.Path.{_≡_};
-ghost use Prim.Native.Nat.{_≤_};
 ghost use lib.ListN.{length};
 ghost use Rattle.rules.specs.Lists.{_&&_, _||_, eqb, allZero, allDifferent};
 ghost use Rattle.rules.specs.Records.{words, inUse, held};
@@ -100,22 +99,26 @@ fn is_line(rec: &[u32]) -> bool
 
 // What record k is asked for its place: the desk, a carnet, the desk's view of a customer and of a bench, a till, a line.
 fn fits_place(h: Hall, list: &[u32], k: usize, rec: &[u32]) -> bool
-    requires { ⌜ (length (now rec) ≡ words) × (h .customers ≤ 64) × (h .benches ≤ 64) ⌝ }
+    requires { ⌜ length (now rec) ≡ words ⌝ }
     ensures { λ r. ⌜ r ≡ placeGood h (now (list .entry)) k (now (rec .entry)) ⌝ }
 {
-    if k < book::carnet(h, 0) {
+    if k < 1 {
         return is_desk(list, rec);
     }
-    if k < book::view(h, 0) {
+    let carnet = k - 1;
+    if carnet < h.customers {
         return is_bare(rec);
     }
-    if k < book::bench_view(h, 0) {
+    let view = carnet - h.customers;
+    if view < h.customers {
         return book::sales(rec) == 0;
     }
-    if k < book::till(h, 0) {
+    let bench = view - h.customers;
+    if bench < h.benches {
         return book::handshake(rec) <= 2;
     }
-    if k < book::line(h, 0, 0) {
+    let till = bench - h.benches;
+    if till < h.benches {
         return is_till(rec);
     }
     is_line(rec)
@@ -123,7 +126,7 @@ fn fits_place(h: Hall, list: &[u32], k: usize, rec: &[u32]) -> bool
 
 // All that record k is asked by itself, with d tokens dealt.
 pub fn is_good(h: Hall, list: &[u32], d: usize, k: usize, rec: &[u32]) -> bool
-    requires { ⌜ (length (now rec) ≡ words) × (h .customers ≤ 64) × (h .benches ≤ 64) ⌝ }
+    requires { ⌜ length (now rec) ≡ words ⌝ }
     ensures { λ r. ⌜ r ≡ recordGood h (now (list .entry)) d k (now (rec .entry)) ⌝ }
 {
     if !is_shaped(rec) {

@@ -6,15 +6,15 @@ use borrow.Author.Tests.{not-false}
 use Rattle.rules.specs.declared.Hall.{Hall}
 use Rattle.rules.specs.declared.Entry.{Entry}
 use Rattle.rules.specs.Lists.{ℕ, _+_, _*_, true, List, length}
-use Rattle.rules.specs.Hall.{mostHeld, Place, Desk, BenchView, Till, number}
-use Rattle.rules.specs.Records.{words}
+use Rattle.rules.specs.Hall.{mostHeld, Place, Desk, BenchView, Till, Line, number}
+use Rattle.rules.specs.Records.{words, recordAt}
 use Rattle.rules.specs.Steps.{left}
 use Rattle.rules.specs.Tape.{usesBench, usesCustomer, inHall, entryRules}
 use Rattle.rules.proofs.Answering.{passed}
 use Rattle.rules.proofs.Granted.{inside-hall-bench, inside-hall-customer}
 use Rattle.laws.proofs.Places.{Inside, inside-below}
-use Rattle.changes.specs.Found.{Party, Enough, Bench}
-use Rattle.kinds.specs.Kinds.{Placed, Listed}
+use Rattle.changes.specs.Found.{Neat, Party, Enough, Bench}
+use Rattle.kinds.specs.Kinds.{Placed, Listed, Tidy}
 
 module _ (h : Hall) (b : List ℕ) (e : Entry) (k : ℕ) (placed : Placed h b e k) where
   in-hall : inHall h e ≡ true
@@ -40,8 +40,13 @@ module _ (h : Hall) (b : List ℕ) (e : Entry) (k : ℕ) (placed : Placed h b e 
   pub party : (own view : Place) → Inside h own → Inside h view → {k j : ℕ} → k ≡ number h own → j ≡ number h view → Party b k j
   party own view i l p q = record { own-stands = stands-at own i p; view-stands = stands-at view l q }
 
-  pub behind : (m : ℕ) → m < h .benches → {k j : ℕ} → k ≡ number h (Till m) → j ≡ number h (BenchView m) → Bench b k j
-  behind m l p q = record { apart = omega arith; till-stands = stands-at (Till m) l p }
+  -- nothing stands behind the tokens of a record before the lines
+  pub neat : Tidy h b → (k : ℕ) → k < number h (Line 0 0) → Neat (recordAt k b)
+  neat tidy k l = record { few = tidy .few k l; past = tidy .past k l }
+
+  pub behind : Tidy h b → (m : ℕ) → m < h .benches → {k j : ℕ} → k ≡ number h (Till m) → j ≡ number h (BenchView m) → Bench b k j
+  behind tidy m l p q =
+      record { apart = omega arith; till-stands = stands-at (Till m) l p; till-neat = neat tidy _ (omega (arith, p, l)); view-neat = neat tidy _ (omega (arith, q, l)) }
 
   pub dealable : (ts : List ℕ) → Listed ts b → {k j : ℕ} → Party b k j → 0 < k → 0 < j → (n : ℕ) → n ≤ left ts b → n ≤ mostHeld → Enough ts b k j n
   dealable ts listed p own view n l f =

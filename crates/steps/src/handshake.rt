@@ -5,7 +5,7 @@ ghost use mathlib.Core.Path.{_≡_};
 ghost use Prim.Native.Nat.{_≤_};
 ghost use Rattle.rules.specs.Answers.{first, Gives};
 ghost use Rattle.changes.specs.Found.{Party, Bench};
-ghost use Rattle.kinds.specs.Kinds.{benchAuthenticates, deskAuthenticates, Placed};
+ghost use Rattle.kinds.specs.Kinds.{benchAuthenticates, deskAuthenticates, Placed, Tidy};
 ghost use Rattle.steps.specs.Pairs.{pairOf, benchAt, deskAt, usedUp};
 use rules::Entry;
 use rules::Hall;
@@ -72,7 +72,7 @@ fn authenticate(book: &mut [u32], at: Pair, refused: u8, s: u32) -> u8
 }
 
 pub fn bench_authenticates(h: Hall, book: &mut [u32], e: Entry) -> u8
-    requires { ⌜ Placed h (now book) e 7 ⌝ }
+    requires { ⌜ Placed h (now book) e 7 × Tidy h (now book) ⌝ }
     ensures { λ r. ⌜ Gives (benchAuthenticates h (now (book .entry)) e) r (now (book .exit)) ⌝ }
 {
     let at = find(h, e);
@@ -81,7 +81,7 @@ pub fn bench_authenticates(h: Hall, book: &mut [u32], e: Entry) -> u8
 }
 
 pub fn desk_authenticates(h: Hall, book: &mut [u32], e: Entry) -> u8
-    requires { ⌜ Placed h (now book) e 8 ⌝ }
+    requires { ⌜ Placed h (now book) e 8 × Tidy h (now book) ⌝ }
     ensures { λ r. ⌜ Gives (deskAuthenticates h (now (book .entry)) e) r (now (book .exit)) ⌝ }
 {
     let at = find(h, e);

@@ -13,7 +13,6 @@ use changes::lines;
 use rules::Entry;
 use rules::Hall;
 use rules::Reply;
-use tokens::searching;
 
 // The numbers of the records that both name: the carnet, the desk's views of customer and bench, the line.
 struct Spots {
@@ -107,17 +106,16 @@ pub fn clear(form: Form, h: Hall, tokens: &[u32], book: &mut [u32], e: Entry) ->
     if refused != 0 {
         return alone(refused);
     }
-    let mut gone = [0u32; 32];
-    let n = book::word_of(book, at.line, 2) as usize;
-    lines::gather_line(form, tokens, book::record_at(book, at.line), &mut gone);
-    let dead = searching::first_absent(book::tokens_at(book, at.view), &gone[..n]);
-    let refused = checks::clear(dead, n);
+    let line = book::record_at(book, at.line);
+    let n = book::count(line) as usize;
+    let found = lines::find(form, tokens, line, book::tokens_at(book, at.view));
+    let refused = checks::clear(found.dead, n);
     if refused != 0 {
         return Reply {
             verdict: refused,
-            second: dead as u8,
+            second: found.dead as u8,
         };
     }
-    changes::settle(book, at.view, at.bench, at.line, &gone[..n]);
+    changes::settle(book, at.view, at.bench, at.line, found.marks);
     alone(0)
 }

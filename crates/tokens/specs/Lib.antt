@@ -1,1 +1,3 @@
 pub mod Laid
+pub mod Moved
+pub mod Marks

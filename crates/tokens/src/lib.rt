@@ -1,3 +1,5 @@
-// Lists of tokens: searched, and laid over lent cells.
+// Lists of tokens: searched, marked and closed up, laid over lent cells, and moved within them.
 pub mod laying;
+pub mod marking;
+pub mod moving;
 pub mod searching;

@@ -2,10 +2,10 @@
 ghost use mathlib.Core.Path.{_≡_};
 ghost use Prim.Native.Nat.{_+_, _≤_, min};
 ghost use lib.ListN.{length, take, drop};
-ghost use Rattle.rules.specs.Lists.{not, every, allZero, isIn, allDifferent, sameList, placeOf, firstAbsent};
+ghost use Rattle.rules.specs.Lists.{every, allZero, isIn, allDifferent, sameList, placeOf};
 
 // One token after the other, up to the hit: of few tokens, and in the block that has the token.
-fn first_hit(list: &[u32], token: u32) -> usize
+pub fn first_hit(list: &[u32], token: u32) -> usize
     ensures { λ r. ⌜ r ≡ placeOf token (now (list .entry)) ⌝ }
 {
     let n = list.len();
@@ -62,13 +62,6 @@ pub fn is_in(list: &[u32], token: u32) -> bool
     found
 }
 
-// Whether a token stands nowhere in a list. The search ends at the first hit: the faster one for few tokens, and for hits near the front, as in a clear.
-pub fn is_absent(list: &[u32], token: u32) -> bool
-    ensures { λ r. ⌜ r ≡ not (isIn token (now (list .entry))) ⌝ }
-{
-    first_hit(list, token) == list.len()
-}
-
 pub fn smaller(a: usize, b: usize) -> usize
     ensures { λ r. ⌜ r ≡ min a b ⌝ }
 {
@@ -109,24 +102,6 @@ pub fn all_among(list: &[u32], n: usize, tokens: &[u32]) -> bool
         i += 1;
     }
     true
-}
-
-// The place, among some tokens, of the first that has none in a list of few, or how many they are.
-pub fn first_absent(list: &[u32], tokens: &[u32]) -> usize
-    ensures { λ r. ⌜ r ≡ firstAbsent (now (list .entry)) (now (tokens .entry)) ⌝ }
-{
-    let n = tokens.len();
-    let mut k = 0;
-    let place = loop {
-        if n <= k {
-            break n;
-        }
-        if first_hit(list, tokens[k]) == list.len() {
-            break k;
-        }
-        k += 1;
-    };
-    place
 }
 
 // Every word is 0.

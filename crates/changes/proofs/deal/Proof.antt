@@ -1,5 +1,5 @@
--- The part of the list that is lent holds the fresh tokens; both records are written from the one scratch that they are laid over,
--- and the desk's record before them still is what it was.
+-- The part of the list that is lent holds the fresh tokens; the view is a copy of the party's own record and gets its amount, and
+-- the desk's record before them still is what it was.
 use mathlib.Core.Path.{_≡_, refl, ap, _∙_}
 use Prim.Native.Nat.{_≤_}
 use native.Mathlib.Omega.{arith}
@@ -7,8 +7,7 @@ use Rattle.rules.specs.Lists.{ℕ, _+_, length}
 use Rattle.rules.specs.Hall.{mostHeld}
 use Rattle.rules.specs.Steps.{dealt, fresh}
 use Rattle.rules.specs.Records.{amount}
-use Rattle.changes.proofs.Scratch.{moved}
-use Rattle.changes.proofs.Written.{written, changed, earlier-stays, next, next-size, fresh-few}
+use Rattle.changes.proofs.Written.{written, changed, copied, earlier-stays, next, next-few, fresh-few}
 use borrow.Author.Needs.{needs}
 use Rattle.changes.proofs.deal.Statement.{statement}
 use Rattle.changes.proofs.deal.Tie as tie
@@ -22,84 +21,70 @@ cast-d c = search needs
 add-e : tie.Need-add-e
 add-e c = search needs
 
-slice-aggregate-lay : tie.Need-slice-aggregate-lay
-slice-aggregate-lay c = search needs
+mul-put-made : tie.Need-mul-put-made
+mul-put-made c = search needs
 
-mul-lay : tie.Need-mul-lay
-mul-lay c = search needs
+sub-put-made : tie.Need-sub-put-made
+sub-put-made c = search needs
 
-sub-lay : tie.Need-sub-lay
-sub-lay c = search needs
+part-put-made-start : tie.Need-part-put-made-start
+part-put-made-start c = search needs
 
-part-lay-start : tie.Need-part-lay-start
-part-lay-start c = search needs
-
-part-lay-end : tie.Need-part-lay-end
+part-put-made-end : tie.Need-part-put-made-end
 unfolding amount
-part-lay-end c = search needs
+part-put-made-end c = search needs
 
-lay-requires : tie.Need-lay-requires
-lay-requires c κs = search needs
+abbrev begun : tie.After-word-of → tie.Start
+begun c = c .before .before .before .before
 
-cast-put-whole : tie.Need-cast-put-whole
-cast-put-whole c = search needs
+put-made-requires : tie.Need-put-made-requires
+put-made-requires c κs =
+    let s = begun (c .before .before) in
+    let few = next-few (c .before .before .word-of .result) (s .args .n) (s .args .tokens .now) (s .pre .few) in
+    search needs
 
-slice-aggregate-put-whole : tie.Need-slice-aggregate-put-whole
-slice-aggregate-put-whole c = search needs
+copy-record-requires : tie.Need-copy-record-requires
+copy-record-requires c κs = search needs
 
-put-whole-requires : tie.Need-put-whole-requires
-put-whole-requires c κs = search needs
-
-cast-put-whole-2 : tie.Need-cast-put-whole-2
-cast-put-whole-2 c = search needs
-
-slice-aggregate-put-whole-2 : tie.Need-slice-aggregate-put-whole-2
-slice-aggregate-put-whole-2 c = search needs
-
-put-whole-requires-2 : tie.Need-put-whole-requires-2
-put-whole-requires-2 c κs = search needs
+set-word-requires : tie.Need-set-word-requires
+set-word-requires c κs = search needs
 
 cast-set-word : tie.Need-cast-set-word
 unfolding amount
 cast-set-word c = search needs
 
-set-word-requires : tie.Need-set-word-requires
-set-word-requires c κs = search needs
+set-word-requires-2 : tie.Need-set-word-requires-2
+set-word-requires-2 c κs = search needs
 
 same-length : tie.Need-same-length
 same-length c = search needs
 
-abbrev at-word-of : tie.After-lay → tie.After-word-of
+abbrev at-set-word : tie.After-slice-known5 → tie.After-set-word
+at-set-word c = c .before .before .before .before .before .before
+
+abbrev at-copy-record : tie.After-set-word → tie.After-copy-record
+at-copy-record c = c .before .before .before .before
+
+abbrev at-put-made : tie.After-copy-record → tie.After-put-made
+at-put-made c = c .before .before .before .before
+
+abbrev at-word-of : tie.After-put-made → tie.After-word-of
 at-word-of c = c .before .before .before
-
-abbrev at-lay : tie.After-put-whole → tie.After-lay
-at-lay c = c .before .before .before .before
-
-abbrev begun : tie.After-word-of → tie.Start
-begun c = c .before .before .before .before
-
-abbrev at-put-whole : tie.After-put-whole2 → tie.After-put-whole
-at-put-whole c = c .before .before .before .before .before
-
-abbrev at-put-whole2 : tie.After-slice-known4 → tie.After-put-whole2
-at-put-whole2 c = c .before .before .before .before .before .before
 
 returns : tie.Need-returns
 unfolding amount
 returns c =
-    let viewed = at-put-whole2 c in
-    let owned = at-put-whole viewed in
-    let laid = at-lay owned in
-    let read = at-word-of laid in
+    let priced = at-set-word c in
+    let twice = at-copy-record priced in
+    let once = at-put-made twice in
+    let read = at-word-of once in
     let start = begun read in
     let a = start .args in
     let d : read .word-of .result ≡ dealt (a .book .now) = read .word-of .ensures in
-    let f = next (read .word-of .result) (a .n) (a .tokens .now) (a .book .now) d in
-    let size = next-size (read .word-of .result) (a .n) (a .tokens .now) (a .book .now) d (start .pre .left) in
     let few : length (fresh (a .tokens .now) (a .book .now) (a .n)) ≤ mostHeld = fresh-few _ _ _ (start .pre .few) in
-    let own = moved _ _ _ _ _ _ _ _ _ (owned .put-whole .ensures) (laid .lay .ensures) size (start .pre .few) f in
-    let view = moved _ _ _ _ _ _ _ _ _ (viewed .put-whole2 .ensures) (laid .lay .ensures) size (start .pre .few) f in
-    changed _ _ _ _ _ _ _ _ (c .before .before .set-word .ensures) (ap (λ (x : ℕ). x + a .n) d)
+    let own = written _ _ _ _ _ _ _ _ _ (once .put-made .ensures) refl (next (read .word-of .result) (a .n) (a .tokens .now) (a .book .now) d) refl in
+    let view = copied _ _ _ _ _ _ _ _ own (start .pre .party .own-stands) (omega arith) few (twice .copy-record .ensures) (priced .set-word .ensures) in
+    changed _ _ _ _ _ _ _ _ (c .before .before .set-word2 .ensures) (ap (λ (x : ℕ). x + a .n) d)
     (earlier-stays _ 0 _ _ _ _ _ view (omega arith) few (start .pre .view-apart)
     ∙ earlier-stays _ 0 _ _ _ _ _ own (start .pre .party .own-stands) few (start .pre .own-apart))
     (written _ _ _ _ _ _ _ _ _ view refl refl own)
@@ -111,19 +96,14 @@ deal-spec =
     word-of-requires
     cast-d
     add-e
-    slice-aggregate-lay
-    mul-lay
-    sub-lay
-    part-lay-start
-    part-lay-end
-    lay-requires
-    cast-put-whole
-    slice-aggregate-put-whole
-    put-whole-requires
-    cast-put-whole-2
-    slice-aggregate-put-whole-2
-    put-whole-requires-2
-    cast-set-word
+    mul-put-made
+    sub-put-made
+    part-put-made-start
+    part-put-made-end
+    put-made-requires
+    copy-record-requires
     set-word-requires
+    cast-set-word
+    set-word-requires-2
     same-length
     returns)

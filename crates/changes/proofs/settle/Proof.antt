@@ -1,10 +1,9 @@
--- Three records are written, two words of the middle one, which still is what it was when the first is written.
+-- The records are written in the order of their numbers, so that each still is what it was when the ones before it are written.
 use mathlib.Core.Path.{refl}
 use native.Mathlib.Omega.{arith}
-use Rattle.rules.specs.Records.{amount}
+use Rattle.rules.specs.Records.{amount, count}
 use Rattle.laws.proofs.Books.{held-few}
-use Rattle.changes.proofs.Scratch.{struck-few}
-use Rattle.changes.proofs.Written.{written, changed-twice, later-stays}
+use Rattle.changes.proofs.Written.{written, changed-twice, later-stays, unmarked-few}
 use borrow.Author.Needs.{needs}
 use Rattle.changes.proofs.settle.Statement.{statement}
 use Rattle.changes.proofs.settle.Tie as tie
@@ -15,14 +14,14 @@ word-of-requires c κs = search needs
 word-of-requires-2 : tie.Need-word-of-requires-2
 word-of-requires-2 c κs = search needs
 
-cast-n : tie.Need-cast-n
-cast-n c = search needs
+word-of-requires-3 : tie.Need-word-of-requires-3
+word-of-requires-3 c κs = search needs
 
 strike-requires : tie.Need-strike-requires
 strike-requires c κs = search needs
 
 add-set-word : tie.Need-add-set-word
-unfolding amount
+unfolding amount count
 add-set-word c = search needs
 
 set-word-requires : tie.Need-set-word-requires
@@ -43,8 +42,8 @@ same-length c = search needs
 abbrev at-strike : tie.After-set-word → tie.After-strike
 at-strike c = c .before .before .before .before
 
-abbrev begun : tie.After-word-of2 → tie.Start
-begun c = c .before .before .before .before .before .before
+abbrev begun : tie.After-word-of → tie.Start
+begun c = c .before .before .before
 
 abbrev at-set-word : tie.After-set-word2 → tie.After-set-word
 at-set-word c = c .before .before .before .before
@@ -53,19 +52,21 @@ abbrev at-set-word2 : tie.After-slice-known5 → tie.After-set-word2
 at-set-word2 c = c .before .before .before .before .before .before .before
 
 returns : tie.Need-returns
-unfolding amount
+unfolding amount count
 returns c =
     let reset = at-set-word2 c in
     let paid = at-set-word reset in
     let struck = at-strike paid in
-    let read = struck .before .before in
+    let counted = struck .before .before in
+    let balanced = counted .before .before in
+    let read = balanced .before .before in
     let start = begun read in
     let stays =
     later-stays _ (start .args .bench) _ _ _ _ _ (struck .strike .ensures) (omega arith)
-    (struck-few _ (start .args .gone .now) _ refl (held-few (start .args .view) (start .args .book .now))) (start .pre .views-apart) in
+    (unmarked-few (start .args .marks) _ (held-few (start .args .view) (start .args .book .now))) (start .pre .views-apart) in
     written _ _ _ _ _ _ _ _ _ (c .before .before .put-made .ensures) refl refl
-    (changed-twice _ _ _ _ _ _ _ _ _ _ _ (reset .set-word2 .ensures) (paid .set-word .ensures) (omega (arith, struck .strike .kept)) (omega (arith, read .word-of2 .ensures)) stays
-    (written _ _ _ _ _ _ _ _ _ (struck .strike .ensures) (read .before .before .word-of .ensures) refl refl))
+    (changed-twice _ _ _ _ _ _ _ _ _ _ _ (reset .set-word2 .ensures) (paid .set-word .ensures) (omega (arith, struck .strike .kept)) (omega (arith, balanced .word-of2 .ensures, counted .word-of3 .ensures)) stays
+    (written _ _ _ _ _ _ _ _ _ (struck .strike .ensures) (read .word-of .ensures) refl refl))
 
 pub settle-spec : {M : Type 1} → statement M
 settle-spec =
@@ -73,7 +74,7 @@ settle-spec =
     (tie.spec
     word-of-requires
     word-of-requires-2
-    cast-n
+    word-of-requires-3
     strike-requires
     add-set-word
     set-word-requires

@@ -1,58 +1,53 @@
--- The tokens that are kept, laid over the scratch record and written back.
-use mathlib.Core.Path.{ap}
-use Prim.Native.Nat.{_≤_}
-use Rattle.rules.specs.Lists.{without}
-use Rattle.rules.specs.Hall.{mostHeld}
-use Rattle.changes.proofs.Scratch.{few, moved, struck-few}
+use Rattle.rules.specs.Lists.{List, ℕ}
+use Rattle.rules.specs.Records.{held, made}
+use Rattle.tokens.specs.Marks.{unmarked}
+use Rattle.changes.proofs.Kept.{changed-there}
 use borrow.Author.Needs.{needs}
 use Rattle.changes.proofs.strike.Statement.{statement}
 use Rattle.changes.proofs.strike.Tie as tie
 
-tokens-at-requires : tie.Need-tokens-at-requires
-tokens-at-requires c κs = search needs
+mul-from : tie.Need-mul-from
+mul-from c = search needs
 
-slice-aggregate-lay-without : tie.Need-slice-aggregate-lay-without
-slice-aggregate-lay-without c = search needs
+add-to : tie.Need-add-to
+add-to c = search needs
 
-lay-without-requires : tie.Need-lay-without-requires
-lay-without-requires c κs = search needs
+mul-drop-marked : tie.Need-mul-drop-marked
+mul-drop-marked c = search needs
 
-kept-few : (c : tie.After-lay-without) → c .lay-without .result ≤ mostHeld
-kept-few c =
-    struck-few _ _ _ (c .lay-without .ensures .0) (few _ _ _ (c .before .before .tokens-at .ensures))
+sub-drop-marked : tie.Need-sub-drop-marked
+sub-drop-marked c = search needs
 
-cast-put-whole : tie.Need-cast-put-whole
-cast-put-whole c =
-    let l = kept-few (c .before .before) in
-    search needs
+part-drop-marked-start : tie.Need-part-drop-marked-start
+part-drop-marked-start c = search needs
 
-slice-aggregate-put-whole : tie.Need-slice-aggregate-put-whole
-slice-aggregate-put-whole c = search needs
+part-drop-marked-end : tie.Need-part-drop-marked-end
+part-drop-marked-end c = search needs
 
-put-whole-requires : tie.Need-put-whole-requires
-put-whole-requires c κs = search needs
+drop-marked-requires : tie.Need-drop-marked-requires
+drop-marked-requires c κs = search needs
 
 same-length : tie.Need-same-length
 same-length c = search needs
 
-abbrev at-lay-without : tie.After-slice-known2 → tie.After-lay-without
-at-lay-without c = c .before .before .before .before .before .before
+abbrev begun : tie.After-slice-known2 → tie.Start
+begun c = c .before .before .before .before .before
 
 returns : tie.Need-returns
 returns c =
-    let laid = at-lay-without c in
-    moved _ _ _ _ _ _ _ _ _ (c .before .before .put-whole .ensures) (laid .lay-without .ensures .1) (laid .lay-without .ensures .0)
-    (kept-few laid) (ap (without _) (laid .before .before .tokens-at .ensures))
+    let a = begun c .args in
+    changed-there (a .k) (λ (r : List ℕ). made (a .amount) (a .word3) (unmarked (a .marks) (held r))) _ _ (c .before .before .drop-marked .ensures)
 
 pub strike-spec : {M : Type 1} → statement M
 strike-spec =
     tie.close
     (tie.spec
-    tokens-at-requires
-    slice-aggregate-lay-without
-    lay-without-requires
-    cast-put-whole
-    slice-aggregate-put-whole
-    put-whole-requires
+    mul-from
+    add-to
+    mul-drop-marked
+    sub-drop-marked
+    part-drop-marked-start
+    part-drop-marked-end
+    drop-marked-requires
     same-length
     returns)

@@ -6,6 +6,7 @@ use Rattle.desk.proofs.Kind.{as-other, passed, placed, listed, tops-up}
 use mathlib.Core.Path.{_≡_}
 use Rattle.rules.specs.Lists.{ℕ}
 use Rattle.kinds.specs.Kinds.{Placed, Passed, Listed}
+use Rattle.kinds.proofs.Ready.{Ready}
 use borrow.Author.Needs.{needs}
 use Rattle.desk.proofs.step_other.Statement.{statement}
 use Rattle.desk.proofs.step_other.Tie as tie
@@ -16,6 +17,9 @@ let-pass s = passed _ _ _ _ _ (works (s .args .form)) (s .pre .0) (s .pre .1)
 
 stands : (s : tie.Start) (k : ℕ) → s .args .e .kind ≡ k → Placed (s .args .h) (s .args .book .now) (s .args .e) k
 stands s = placed (formOf (s .args .form)) _ (s .args .tokens .now) _ _ (works (s .args .form)) (s .pre .0) (s .pre .1)
+
+ready : (s : tie.Start) → Ready (s .args .h) (s .args .tokens .now) (s .args .book .now)
+ready s = works (s .args .form) .ready _ _ _ (s .pre .0 .good)
 
 dealt-from : (s : tie.Start) → Listed (s .args .tokens .now) (s .args .book .now)
 dealt-from s = listed (formOf (s .args .form)) (s .args .h) _ _ (s .args .e) (works (s .args .form)) (s .pre .0) (s .pre .1)
@@ -140,7 +144,7 @@ begun-from-then7 c = c .before .before .before .before .before .before .before .
 bench-authenticates-requires : tie.Need-bench-authenticates-requires
 bench-authenticates-requires c κs =
     let s = begun-from-then7 (c .before) in
-    stands s 7 (c .before .if7 .taken)
+    (stands s 7 (c .before .if7 .taken), ready s .tidy)
 
 same-length-7 : tie.Need-same-length-7
 same-length-7 c = search needs
@@ -159,7 +163,7 @@ begun-from-struct-known8 c = c .before .before .before .before .before .before .
 desk-authenticates-requires : tie.Need-desk-authenticates-requires
 desk-authenticates-requires c κs =
     let s = begun-from-struct-known8 (c .before .before) in
-    stands s 8 (c .before .if8 .taken)
+    (stands s 8 (c .before .if8 .taken), ready s .tidy)
 
 same-length-8 : tie.Need-same-length-8
 same-length-8 c = search needs
@@ -200,7 +204,7 @@ kind c =
 top-up-requires : tie.Need-top-up-requires
 top-up-requires c κs =
     let s = begun-from-struct-known8 (c .before .before) in
-    (stands s 10 (kind (c .before)), works (s .args .form) .ready _ _ _ (s .pre .0 .good) .most)
+    (stands s 10 (kind (c .before)), ready s .most)
 
 same-length-9 : tie.Need-same-length-9
 same-length-9 c = search needs

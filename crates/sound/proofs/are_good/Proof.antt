@@ -37,7 +37,7 @@ record-at-requires : tie.Need-record-at-requires Inv-loop μ-loop
 record-at-requires c κs = search needs
 
 is-good-requires : tie.Need-is-good-requires Inv-loop μ-loop
-is-good-requires c κs = (block-size words _ _ _ (omega arith) (c .record-at .ensures), begun (c .before .before) .pre .0, begun (c .before .before) .pre .1)
+is-good-requires c κs = block-size words _ _ _ (omega arith) (c .record-at .ensures)
 
 returns : tie.Need-returns Inv-loop μ-loop
 returns c =

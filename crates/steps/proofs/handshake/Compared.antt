@@ -12,7 +12,7 @@ use Rattle.rules.specs.Records.{inUse, count, handshake, cells, recordAt}
 use Rattle.rules.specs.Tape.{usesBench}
 use Rattle.rules.specs.Steps.{putAll, authenticating}
 use Rattle.kinds.specs.Chains.{benchRules, deskRules}
-use Rattle.kinds.specs.Kinds.{Placed}
+use Rattle.kinds.specs.Kinds.{Placed, Tidy}
 use Rattle.changes.specs.Found.{Party, Bench}
 use Rattle.steps.specs.declared.handshake.Pair.{Pair}
 use Rattle.steps.specs.Pairs.{pairOf, benchAt, deskAt, usedUp}
@@ -51,8 +51,8 @@ module _ {h : Hall} {b : List ℕ} {e : Entry} {k : ℕ} (placed : Placed h b e 
   both-stand =
       party h b e k placed (Till (e .bench)) (BenchView (e .bench)) inside inside (ap (λ (p : Pair). p .till) found) (ap (λ (p : Pair). p .view) found)
 
-  pub till-behind : Bench b (at .till) (at .view)
-  till-behind = behind h b e k placed (e .bench) inside (ap (λ (p : Pair). p .till) found) (ap (λ (p : Pair). p .view) found)
+  pub till-behind : Tidy h b → Bench b (at .till) (at .view)
+  till-behind tidy = behind h b e k placed tidy (e .bench) inside (ap (λ (p : Pair). p .till) found) (ap (λ (p : Pair). p .view) found)
 
   -- the number decides, and the changes are the kind's
   pub answered : (s n : ℕ) (rules : Pair → List Rule) → n ≡ first (rules at) → {r : ℕ} {after : List ℕ} → Gives (usedUp b at n s) r after

@@ -1,22 +1,24 @@
 -- A clear, by the numbers found: the tokens that are gone, whether they live, what is settled, and the book afterwards.
-use mathlib.Core.Path.{_≡_, refl, sym, ap, _∙_, subst}
+use mathlib.Core.Path.{_≡_, refl, sym, ap, ap₂, _∙_, subst}
 use Prim.Native.Nat.{_≤_, _<_}
 use native.Mathlib.Omega.{arith}
-use borrow.Author.Tests.{ltb-true}
+use borrow.Author.Tests.{ltb-true, ltb-false}
 use Rattle.rules.specs.declared.Hall.{Hall}
 use Rattle.rules.specs.declared.Entry.{Entry}
-use Rattle.rules.specs.Lists.{ℕ, _+_, _*_, Bool, true, false, cond, ltb, List, [], _++_, length, take, getD, without, firstAbsent}
-use Rattle.rules.specs.Hall.{mostHeld, mostSales}
+use Rattle.rules.specs.Lists.{ℕ, _+_, _*_, Bool, true, false, cond, ltb, List, [], _++_, length, allDifferent, without, firstAbsent}
+use Rattle.rules.specs.Hall.{mostHeld, mostSales, number}
 use Rattle.rules.specs.Answers.{Rule, first}
 use Rattle.rules.specs.Records.{words, amount, count, sales, handshake, held, made, withAmount, withHandshake, recordAt, put}
 use Rattle.rules.specs.Form.{Form}
 use Rattle.rules.specs.Steps.{settling, clearing, putAll, theBenchView}
 use Rattle.rules.specs.Verdicts.{waiting, deadAt}
 use Rattle.laws.proofs.Blocks.{block-size}
-use Rattle.tokens.specs.Laid.{laid}
+use Rattle.laws.proofs.Books.{held-few}
+use Rattle.tokens.specs.declared.marking.Found.{Found}
+use Rattle.tokens.specs.Marks.{unmarked, found}
+use Rattle.tokens.proofs.marking.Marking.{absent-le, marked-all, unmarked-without}
 use Rattle.kinds.specs.Chains.{shakenRules, clearRules}
 use Rattle.changes.specs.Found.{Account}
-use Rattle.changes.proofs.Scratch.{first-laid}
 use Rattle.kinds.specs.Kinds.{knownLine}
 use Rattle.steps.specs.declared.sales.Spots.{Spots}
 use Rattle.steps.specs.Spots.{knownAt, shakenAt}
@@ -37,82 +39,107 @@ refused-dead d n r e z = go (ltb d n) refl e
     go true l e = (e, ltb-true d n l)
     go false l e = absurd (z e)
 
+granted-live : (d n r : ℕ) → r ≡ first (clearRules d n) → r ≡ 0 → n ≤ d
+unfolding clearRules first
+granted-live d n r e z = go (ltb d n) refl e
+  where
+    go : (t : Bool) → ltb d n ≡ t → r ≡ cond t 15 0 → n ≤ d
+    go true l e = absurd (omega arith)
+    go false l e = ltb-false d n l
+
 -- the three records of a settled line
-abbrev settled : List ℕ → Spots → List ℕ → List ℕ
-settled b at gone =
+abbrev settled : List ℕ → Spots → ℕ → List ℕ → List ℕ
+settled b at n rest =
     put (at .line) (made 0 0 [])
-    (put (at .bench) (withHandshake 0 (withAmount (amount (recordAt (at .bench) b) + length gone) (recordAt (at .bench) b)))
-    (put (at .view) (made (amount (recordAt (at .view) b)) 0 (without gone (held (recordAt (at .view) b)))) b))
+    (put (at .bench) (withHandshake 0 (withAmount (amount (recordAt (at .bench) b) + n) (recordAt (at .bench) b)))
+    (put (at .view) (made (amount (recordAt (at .view) b)) 0 rest) b))
 
 -- the chain of a clear, as the rules have it
 abbrev pub clearChain : Form → Hall → List ℕ → List ℕ → Entry → List Rule
 clearChain f h ts b e =
     (knownLine h b e ++ shakenRules (handshake (theBenchView h b e))) ++ clearRules (deadAt f h ts b e) (length (waiting f h ts b e))
 
+-- what was read, and what was found
+pub record Seen (f : Form) (ts b : List ℕ) (at : Spots) (r v : List ℕ) (n : ℕ) (seen : Found) : Type 0 where
+  pub line : r ≡ recordAt (at .line) b
+  pub many : n ≡ count r
+  pub view : v ≡ held (recordAt (at .view) b)
+  pub result : seen ≡ found v (f .tokens ts r) 0
+
 module _ {f : Form} {h : Hall} {ts b : List ℕ} {e : Entry} {at : Spots} (case : Case f h ts b e 9 at) where
-  -- ---- the tokens that are gone
-  pub gone-few : (n : ℕ) → n ≡ getD (recordAt (at .line) b) 2 0 → n ≤ mostHeld
-  unfolding count
-  gone-few n p = rw p (few-tokens case)
+  -- the tokens that are gone
+  abbrev gone : List ℕ
+  gone = f .tokens ts (recordAt (at .line) b)
 
-  pub line-fit : (r : List ℕ) → r ≡ recordAt (at .line) b → (length r ≡ words) × (sales r ≤ mostSales)
-  line-fit r p = (block-size words (at .line) b r (all-stand case .line) p, rw p (few-sales case))
+  pub line-long : (r : List ℕ) → r ≡ recordAt (at .line) b → length r ≡ words
+  line-long r p = block-size words (at .line) b r (all-stand case .line) p
 
-  pub first-gone : (n : ℕ) (r cells out : List ℕ) → n ≡ getD (recordAt (at .line) b) 2 0 → r ≡ recordAt (at .line) b
-      → length out ≡ mostHeld → cells ≡ laid (f .tokens ts r) out → take n cells ≡ f .tokens ts (recordAt (at .line) b)
-  unfolding count
-  first-gone n r cells out p q l c =
-      first-laid n (f .tokens ts (recordAt (at .line) b)) out cells
-      (p ∙ sym (counted case)) (omega (arith, l, counted case, few-tokens case))
-      (c ∙ ap (λ (x : List ℕ). laid (f .tokens ts x) out) q)
+  pub line-fit : (r v : List ℕ) → r ≡ recordAt (at .line) b → v ≡ held (recordAt (at .view) b)
+      → (length r ≡ words) × (sales r ≤ mostSales) × (length (f .tokens ts r) ≤ mostHeld) × (length v ≤ mostHeld)
+  line-fit r v p q = (line-long r p, rw p (few-sales case), rw p (omega (arith, counted case, few-tokens case)), rw q (held-few (at .view) b))
 
   -- ---- the number
   pub shaken-refused : (r : ℕ) → r ≡ first (shakenAt b at) → (r ≡ 0 → ⊥) → r ≡ first (clearChain f h ts b e)
   unfolding shakenAt knownAt knownLine
   shaken-refused r n z = first-refuses _ _ r (n ∙ ap (λ (s : Spots). first (shakenAt b s)) (case .found)) z
 
-  -- the count that was read is how many tokens the line stands for
-  all-waiting : (n : ℕ) → n ≡ getD (recordAt (at .line) b) 2 0 → n ≡ length (waiting f h ts b e)
-  unfolding count
-  all-waiting n p = p ∙ sym (counted case) ∙ ap (λ (s : Spots). length (f .tokens ts (recordAt (s .line) b))) (case .found)
+  balance : amount (recordAt (at .bench) b) + count (recordAt (at .line) b) < 4294967296
+  balance =
+      omega (
+        arith,
+        few-tokens case,
+        case .placed .customers,
+        subst (λ (s : Spots). amount (recordAt (s .bench) b) ≤ 1000000 * h .customers) (sym (case .found)) (ready case .balances (e .bench) (inside case .0)),
+      )
 
-  module _ (gone : List ℕ) (all : gone ≡ f .tokens ts (recordAt (at .line) b)) where
-    pub dead-is : (d : ℕ) (view : List ℕ) → view ≡ held (recordAt (at .view) b) → d ≡ firstAbsent view gone → d ≡ deadAt f h ts b e
-    dead-is d view v a =
-        a
-        ∙ ap (λ (x : List ℕ). firstAbsent x gone) v
-        ∙ ap (dead b at) all
-        ∙ ap (λ (s : Spots). dead b s (f .tokens ts (recordAt (s .line) b))) (case .found)
+  pub account : Account b (at .view) (at .bench) (at .line)
+  account =
+      record {
+        views-apart = subst (λ (s : Spots). s .view < s .bench) (sym (case .found)) (omega (arith, inside case .1));
+        line-apart = subst (λ (s : Spots). s .bench < s .line) (sym (case .found)) (omega (arith, inside case .0));
+        line-stands = all-stand case .line;
+        fits = balance;
+      }
 
-    pub clear-number : (r s d n : ℕ) → r ≡ first (shakenAt b at) → r ≡ 0 → d ≡ deadAt f h ts b e → n ≡ getD (recordAt (at .line) b) 2 0
-        → s ≡ first (clearRules d n) → s ≡ first (clearChain f h ts b e)
+  module _ {r v : List ℕ} {n : ℕ} {seen : Found} (s : Seen f ts b at r v n seen) where
+    pub seen-few : n ≤ mostHeld
+    seen-few = rw (s .many, s .line) (few-tokens case)
+
+    -- the count that was read is how many tokens the line stands for
+    as-many : n ≡ length gone
+    as-many = s .many ∙ ap count (s .line) ∙ sym (counted case)
+
+    all-waiting : n ≡ length (waiting f h ts b e)
+    all-waiting = as-many ∙ ap (λ (s : Spots). length (f .tokens ts (recordAt (s .line) b))) (case .found)
+
+    seen-there : seen ≡ found (held (recordAt (at .view) b)) gone 0
+    seen-there = s .result ∙ rw (s .view, s .line)
+
+    first-dead : seen .dead ≡ dead b at gone
+    first-dead = ap (λ (x : Found). x .dead) seen-there
+
+    pub dead-is : seen .dead ≡ deadAt f h ts b e
+    dead-is = first-dead ∙ ap (λ (s : Spots). dead b s (f .tokens ts (recordAt (s .line) b))) (case .found)
+
+    pub clear-number : (x y : ℕ) → x ≡ first (shakenAt b at) → x ≡ 0 → y ≡ first (clearRules (seen .dead) n) → y ≡ first (clearChain f h ts b e)
     unfolding shakenAt knownAt knownLine
-    clear-number r s d n k z p q m =
-        shaken-then b at r k z _ s (m ∙ rw (p, all-waiting n q))
+    clear-number x y k z m =
+        shaken-then b at x k z _ y (m ∙ rw (dead-is, all-waiting))
         ∙ ap (λ (s : Spots). first (shakenAt b s ++ clearRules (deadAt f h ts b e) (length (waiting f h ts b e)))) (case .found)
 
-    -- ---- the book afterwards
-    pub clear-written : (new : List ℕ) → new ≡ settled b at gone → new ≡ putAll h (clearing h b e f ts) b
-    unfolding putAll settling clearing
-    clear-written new w = w ∙ ap (settled b at) all ∙ ap (λ (s : Spots). settled b s (f .tokens ts (recordAt (s .line) b))) (case .found)
+    -- ---- the book afterwards: where all of them live, what isn't marked is without them
+    module _ (y : ℕ) (m : y ≡ first (clearRules (seen .dead) n)) (zero : y ≡ 0) where
+      struck : unmarked (seen .marks) (held (recordAt (at .view) b)) ≡ without gone (held (recordAt (at .view) b))
+      struck =
+          let v : List ℕ = held (recordAt (at .view) b) in
+          let all : firstAbsent v gone ≡ length gone = omega (arith, granted-live _ _ y m zero, first-dead, as-many, absent-le v gone) in
+          let differ = subst (λ (s : Spots). allDifferent (held (recordAt (s .view) b)) ≡ true) (sym (case .found)) (ready case .differ (e .customer) (inside case .1)) in
+          ap (λ (k : ℕ). unmarked k v) (ap (λ (x : Found). x .marks) seen-there ∙ marked-all v differ gone all) ∙ unmarked-without gone v
 
-    -- ---- what is settled
-    balance : amount (recordAt (at .bench) b) + length gone < 4294967296
-    balance =
-        omega (
-          arith,
-          ap length all,
-          counted case,
-          few-tokens case,
-          case .placed .customers,
-          subst (λ (s : Spots). amount (recordAt (s .bench) b) ≤ 1000000 * h .customers) (sym (case .found)) (ready case .balances (e .bench) (inside case .0)),
-        )
-
-    pub account : Account b (at .view) (at .bench) (at .line) gone
-    account =
-        record {
-          views-apart = subst (λ (s : Spots). s .view < s .bench) (sym (case .found)) (omega (arith, inside case .1));
-          line-apart = subst (λ (s : Spots). s .bench < s .line) (sym (case .found)) (omega (arith, inside case .0));
-          line-stands = all-stand case .line;
-          fits = balance;
-        }
+      pub clear-written : (new : List ℕ) → new ≡ settled b at (count (recordAt (at .line) b)) (unmarked (seen .marks) (held (recordAt (at .view) b)))
+          → new ≡ putAll h (clearing h b e f ts) b
+      unfolding putAll settling clearing
+      clear-written new w =
+          w
+          ∙ ap₂ (settled b at) (sym (counted case)) struck
+          ∙ ap (λ (s : Spots). let g = f .tokens ts (recordAt (s .line) b) in settled b s (length g) (without g (held (recordAt (s .view) b)))) (case .found)

@@ -5,22 +5,24 @@ use native.Mathlib.Omega.{arith}
 use lib.ListN.{length-append}
 use Rattle.rules.specs.declared.Hall.{Hall}
 use Rattle.rules.specs.declared.Entry.{Entry}
-use Rattle.rules.specs.Lists.{ℕ, _+_, _-_, List, _++_, length, replicate}
-use Rattle.rules.specs.Hall.{mostHeld}
+use Rattle.rules.specs.Lists.{ℕ, _+_, _-_, true, List, _++_, length, drop, replicate, allZero}
+use Rattle.rules.specs.Hall.{mostHeld, Carnet, number}
 use Rattle.rules.specs.Answers.{Rule, first, answer}
-use Rattle.rules.specs.Records.{words, count, sales, filled, recordAt}
+use Rattle.rules.specs.Records.{words, count, sales, cells, filled, recordAt}
 use Rattle.rules.specs.Form.{Form}
 use Rattle.rules.specs.Steps.{theCarnet, theLine, soldLine, selling, putAll}
 use Rattle.rules.specs.Verdicts.{Stepped, verdict}
-use Rattle.rules.proofs.Granted.{sell-room}
+use Rattle.rules.proofs.Granted.{sell-enough, sell-room}
 use Rattle.rules.proofs.Stepping.{step-verdict}
 use Rattle.kinds.specs.Chains.{saleRules}
+use Rattle.changes.specs.Found.{Neat}
 use Rattle.changes.specs.Sales.{soldCells, sold, Room}
 use Rattle.kinds.specs.Kinds.{knownLine, sell}
 use Rattle.kinds.proofs.Table.{step-sell}
 use Rattle.steps.specs.declared.sales.Spots.{Spots}
 use Rattle.steps.specs.Spots.{spotsOf, knownAt, saleAt}
-use Rattle.steps.proofs.sales.Stood.{Case, inside, all-stand, few-sales}
+use Rattle.steps.proofs.Found.{neat}
+use Rattle.steps.proofs.sales.Stood.{Case, inside, ready, all-stand, few-sales}
 
 -- a whole record has no more cells filled than it has
 cells-few : (u a n s : ℕ) (cs : List ℕ) → length (filled u a n s cs) ≡ words → length cs ≤ mostHeld
@@ -53,9 +55,15 @@ module _ {f : Form} {h : Hall} {ts b : List ℕ} {e : Entry} {at : Spots} (case 
     pub sale-room : Room f b (at .carnet) (at .line) (e .amount)
     sale-room =
         record {
-          carnet-inside = all-stand case .carnet;
           line-inside = all-stand case .line;
           apart = subst (λ (s : Spots). s .carnet < s .line) (sym (case .found)) (omega (arith, inside case .1));
+          carnet-neat =
+              subst (λ (s : Spots). Neat (recordAt (s .carnet) b)) (sym (case .found))
+              (neat h b e 6 (case .placed) (ready case .tidy) (number h (Carnet (e .customer))) (omega (arith, inside case .1)));
+          enough = subst (λ (s : Spots). e .amount ≤ count (recordAt (s .carnet) b)) (sym (case .found)) (sell-enough f h ts b e granted (case .placed .kind));
+          line-past =
+              subst (λ (s : Spots). allZero (drop (length (f .cells (recordAt (s .line) b))) (cells (recordAt (s .line) b))) ≡ true) (sym (case .found))
+              (case .works .line-past h ts b (case .passed .good) (e .bench) (e .customer) (inside case));
           cells = subst (λ (s : Spots). length (soldCells f b (s .carnet) (s .line) (e .amount)) ≤ mostHeld) (sym (case .found)) whole;
           tokens = subst (λ (s : Spots). count (recordAt (s .line) b) + e .amount ≤ mostHeld) (sym (case .found)) (sell-room f h ts b e granted (case .placed .kind));
           sales = few-sales case;

@@ -1,15 +1,13 @@
--- Tokens laid over lent cells: one more, as many as fit, some behind others.
+-- Tokens laid over lent cells: one more, four more, the last ones, as many as fit, some behind others.
 use mathlib.Core.Path.{_≡_, refl, sym, ap, _∙_}
-use mathlib.Core.List.{append-nil}
+use mathlib.Core.Logic.{⊎-elim}
 use Prim.Native.Nat.{_≤_, _<_}
 use native.Mathlib.Numerals.{add-one}
 use native.Mathlib.Omega.{arith}
-use lib.ListN.{length-append, length-set, set}
+use lib.ListN.{set}
 use lib.Seq.{take-suc, take-all, take-nil, drop-nil, length-take-le}
-use borrow.Rule.Slice.PartMut.{putMid, midOf}
-use Rattle.rules.specs.Lists.{ℕ, zero, suc, _+_, _-_, min, Bool, true, false, cond, List, [], _∷_, _++_, length, take, drop, getD, isIn, without}
-use Rattle.laws.proofs.Parts.{part-rest, back-rest}
-use Rattle.tokens.proofs.searching.Least.{take-least, least-size}
+use Rattle.rules.specs.Lists.{ℕ, zero, suc, _+_, _-_, min, List, [], _∷_, _++_, length, take, drop, getD}
+use Rattle.rules.proofs.Tests.{below}
 use Rattle.tokens.specs.Laid.{laid}
 
 pub laid-nothing : (out : List ℕ) → laid [] out ≡ out
@@ -21,7 +19,7 @@ unfolding laid
 laid-nowhere xs = drop-nil (length xs)
 
 -- one token more
-pub laid-more : (xs out : List ℕ) (t : ℕ) → laid (xs ++ (t ∷ [])) out ≡ set (laid xs out) (length xs) t
+laid-more : (xs out : List ℕ) (t : ℕ) → laid (xs ++ (t ∷ [])) out ≡ set (laid xs out) (length xs) t
 unfolding laid
 laid-more [] [] t = refl
 laid-more [] (y ∷ out) t = ap (λ (l : List ℕ). t ∷ l) (laid-nothing out)
@@ -35,13 +33,53 @@ laid-next xs out i l =
     ∙ sym (laid-more (take i xs) out (getD xs i 0))
     ∙ ap (λ (l : List ℕ). laid l out) (sym (take-suc xs i 0 l) ∙ ap (λ (n : ℕ). take n xs) (sym (add-one i)))
 
+-- four tokens more, as one turn lays them
+pub laid-fours : (xs out : List ℕ) (i : ℕ) → i + 4 ≤ length xs
+    → set (set (set (set (laid (take i xs) out) i (getD xs i 0)) (i + 1) (getD xs (i + 1) 0)) (i + 2) (getD xs (i + 2) 0)) (i + 3) (getD xs (i + 3) 0)
+    ≡ laid (take (i + 4) xs) out
+laid-fours xs out i l =
+    rw (laid-next xs out i (omega arith), to (i + 1) (i + 2) (omega arith) (omega arith), to (i + 2) (i + 3) (omega arith) (omega arith))
+    (to (i + 3) (i + 4) (omega arith) (omega arith))
+  where
+    to : (j k : ℕ) → j < length xs → j + 1 ≡ k → set (laid (take j xs) out) j (getD xs j 0) ≡ laid (take k xs) out
+    to j k h e = laid-next xs out j h ∙ ap (λ (n : ℕ). laid (take n xs) out) e
+
 -- tokens that have no place are not laid
-pub laid-enough : (n : ℕ) (xs out : List ℕ) → min (length xs) (length out) ≤ n → laid (take n xs) out ≡ laid xs out
+laid-enough : (n : ℕ) (xs out : List ℕ) → min (length xs) (length out) ≤ n → laid (take n xs) out ≡ laid xs out
 unfolding laid
 laid-enough n [] out l = ap (λ (x : List ℕ). laid x out) (take-nil n)
 laid-enough n (x ∷ xs) [] l = laid-nowhere (take n (x ∷ xs)) ∙ sym (laid-nowhere (x ∷ xs))
 laid-enough zero (x ∷ xs) (y ∷ out) l = absurd (omega arith)
 laid-enough (suc n) (x ∷ xs) (y ∷ out) l = ap (λ (z : List ℕ). x ∷ z) (laid-enough n xs out (omega arith))
+
+-- the last tokens, at most three, each laid where there is one
+module _ (xs cells : List ℕ) (n : ℕ) (e : n ≡ min (length xs) (length cells)) where
+  abbrev One : List ℕ → List ℕ → ℕ → Type 0
+  One out new i = (i < n → new ≡ set out i (getD xs i 0)) × (n ≤ i → new ≡ out)
+
+  laid-one : (i k j : ℕ) (out new : List ℕ) → k ≡ min i n → j ≡ min (i + 1) n → One out new i → out ≡ laid (take k xs) cells → new ≡ laid (take j xs) cells
+  laid-one i k j out new ek ej one p =
+      ⊎-elim
+      (λ (l : i < n).
+      let k-i : k ≡ i = omega arith in
+      let i-j : i + 1 ≡ j = omega arith in
+      one .0 l
+      ∙ ap (λ (x : List ℕ). set x i (getD xs i 0)) (p ∙ to k-i)
+      ∙ laid-next xs cells i (omega arith)
+      ∙ to i-j)
+      (λ (l : n ≤ i). let k-j : k ≡ j = omega arith in one .1 l ∙ p ∙ to k-j)
+      (below i n)
+    where
+      to : {a b : ℕ} → a ≡ b → laid (take a xs) cells ≡ laid (take b xs) cells
+      to q = ap (λ (m : ℕ). laid (take m xs) cells) q
+
+  pub laid-last : (r : ℕ) (out₀ out₁ out₂ out₃ : List ℕ) → r ≤ n → n < r + 4 → out₀ ≡ laid (take r xs) cells
+      → One out₀ out₁ r → One out₁ out₂ (r + 1) → One out₂ out₃ (r + 2) → out₃ ≡ laid xs cells
+  laid-last r out₀ out₁ out₂ out₃ l u p a b c =
+      laid-one (r + 2) (min (r + 2) n) n out₂ out₃ refl (omega arith) c
+      (laid-one (r + 1) (min (r + 1) n) (min (r + 2) n) out₁ out₂ refl (omega arith) b
+      (laid-one r r (min (r + 1) n) out₀ out₁ (omega arith) refl a p))
+      ∙ laid-enough n xs cells (omega arith)
 
 -- tokens that all have a place
 pub laid-all : (xs out : List ℕ) → length xs ≤ length out → laid xs out ≡ xs ++ drop (length xs) out
@@ -58,85 +96,3 @@ laid-behind zero (x ∷ xs) ys (y ∷ out) e = absurd (omega arith)
 laid-behind (suc k) [] ys out e = absurd (omega arith)
 laid-behind (suc k) (x ∷ xs) ys [] e = absurd (omega arith)
 laid-behind (suc k) (x ∷ xs) ys (y ∷ out) e = ap (λ (z : List ℕ). x ∷ z) (laid-behind k xs ys out (omega arith))
-
--- the first n of some tokens laid, and then the older ones over the part that is left
-pub laid-before : (n m k : ℕ) (sold older out out₁ out₂ : List ℕ) → m ≡ min n (length sold) → out₁ ≡ laid (take m sold) out
-    → length out₁ ≡ length out → k ≡ min m (length out₁) → out₂ ≡ laid older (midOf k (length out₁ - k) out₁)
-    → putMid k (length out₁ - k) out₁ out₂ ≡ laid (take n sold ++ older) out
-laid-before n m k sold older out out₁ out₂ em e₁ size ek e₂ =
-    let s : m ≡ length (take m sold) = least-size n m sold em in
-    back-rest k out₁ out₂
-    ∙ ap (λ (x : List ℕ). take k out₁ ++ x) (e₂ ∙ ap (laid older) (part-rest k out₁))
-    ∙ ap (λ (x : List ℕ). take k x ++ laid older (drop k x)) e₁
-    ∙ laid-behind k (take m sold) older out (omega arith)
-    ∙ ap (λ (x : List ℕ). laid (x ++ older) out) (take-least n m sold em)
-
--- ---- a list without others, token by token
-without-append : (gone xs ys : List ℕ) → without gone (xs ++ ys) ≡ without gone xs ++ without gone ys
-unfolding without
-without-append gone [] ys = refl
-without-append gone (x ∷ xs) ys = go (isIn x gone) (without-append gone xs ys)
-  where
-    go : (t : Bool) → without gone (xs ++ ys) ≡ without gone xs ++ without gone ys
-        → cond t (without gone (xs ++ ys)) (x ∷ without gone (xs ++ ys)) ≡ cond t (without gone xs) (x ∷ without gone xs) ++ without gone ys
-    go true e = e
-    go false e = ap (λ (l : List ℕ). x ∷ l) e
-
-module _ (gone xs : List ℕ) (i : ℕ) (l : i < length xs) where
-  one-more : without gone (take (i + 1) xs) ≡ without gone (take i xs) ++ without gone (getD xs i 0 ∷ [])
-  one-more = ap (without gone) (ap (λ (n : ℕ). take n xs) (add-one i) ∙ take-suc xs i 0 l) ∙ without-append gone (take i xs) (getD xs i 0 ∷ [])
-
-  pub without-kept : isIn (getD xs i 0) gone ≡ false → without gone (take (i + 1) xs) ≡ without gone (take i xs) ++ (getD xs i 0 ∷ [])
-  unfolding without
-  without-kept e = one-more ∙ rw e
-
-  pub without-struck : isIn (getD xs i 0) gone ≡ true → without gone (take (i + 1) xs) ≡ without gone (take i xs)
-  unfolding without
-  without-struck e = one-more ∙ rw e (append-nil (without gone (take i xs)))
-
--- what is laid when the first i tokens were looked at
-pub record Struck (gone tokens out₀ : List ℕ) (out : List ℕ) (kept i : ℕ) : Type 0 where
-  pub within : i ≤ length tokens
-  pub size : length out ≡ length out₀
-  pub few : kept ≤ i
-  pub number : kept ≡ length (without gone (take i tokens))
-  pub cells : out ≡ laid (without gone (take i tokens)) out₀
-
-pub struck-none : (gone tokens out : List ℕ) → Struck gone tokens out out 0 0
-unfolding without
-struck-none gone tokens out = record { within = omega arith; size = refl; few = omega arith; number = refl; cells = sym (laid-nothing out) }
-
-module _ (gone tokens out₀ out : List ℕ) (kept i : ℕ) (s : Struck gone tokens out₀ out kept i) where
-  pub struck-kept : i < length tokens → isIn (getD tokens i 0) gone ≡ false → (new : List ℕ) (n : ℕ) → new ≡ set out kept (getD tokens i 0) → n ≡ kept + 1
-      → Struck gone tokens out₀ new n (i + 1)
-  struck-kept l e new n p q =
-      let more = without-kept gone tokens i l e in
-      let t : ℕ = getD tokens i 0 in
-      record {
-        within = omega arith;
-        size = ap length p ∙ length-set out kept t ∙ s .size;
-        few = omega (arith, s .few);
-        number = q ∙ ap (λ (x : ℕ). x + 1) (s .number) ∙ sym (ap length more ∙ length-append (without gone (take i tokens)) (t ∷ []));
-        cells =
-            p
-            ∙ ap (λ (x : List ℕ). set x kept t) (s .cells)
-            ∙ ap (λ (x : ℕ). set (laid (without gone (take i tokens)) out₀) x t) (s .number)
-            ∙ sym (laid-more (without gone (take i tokens)) out₀ t)
-            ∙ ap (λ (x : List ℕ). laid x out₀) (sym more);
-      }
-
-  pub struck-gone : i < length tokens → isIn (getD tokens i 0) gone ≡ true → (new : List ℕ) (n : ℕ) → new ≡ out → n ≡ kept → Struck gone tokens out₀ new n (i + 1)
-  struck-gone l e new n p q =
-      let same = without-struck gone tokens i l e in
-      record {
-        within = omega arith;
-        size = ap length p ∙ s .size;
-        few = omega (arith, s .few);
-        number = q ∙ s .number ∙ sym (ap length same);
-        cells = p ∙ s .cells ∙ ap (λ (x : List ℕ). laid x out₀) (sym same);
-      }
-
-  pub struck-all : length tokens ≤ i → (kept ≡ length (without gone tokens)) × (out ≡ laid (without gone tokens) out₀)
-  struck-all l =
-      let all : take i tokens ≡ tokens = take-all i tokens l in
-      (s .number ∙ ap (λ (x : List ℕ). length (without gone x)) all, s .cells ∙ ap (λ (x : List ℕ). laid (without gone x) out₀) all)

@@ -16,14 +16,14 @@ begun c = c .before .before
 
 judge-bench-requires : tie.Need-judge-bench-requires
 unfolding occ
-judge-bench-requires c κs = both-stand (begun (c .before) .pre) refl (c .before .find .ensures)
+judge-bench-requires c κs = both-stand (begun (c .before) .pre .0) refl (c .before .find .ensures)
 
 abbrev at-find : tie.After-judge-bench → tie.After-find
 at-find c = c .before .before
 
 authenticate-requires : tie.Need-authenticate-requires
 unfolding occ
-authenticate-requires c κs = let found = at-find (c .before) in till-behind (begun found .pre) refl (found .find .ensures)
+authenticate-requires c κs = let found = at-find (c .before) in till-behind (begun found .pre .0) refl (found .find .ensures) (begun found .pre .1)
 
 same-length : tie.Need-same-length
 same-length c = search needs
@@ -33,7 +33,7 @@ unfolding occ benchAuthenticates benchAt
 returns c =
     let judged = c .before .before .before .before in
     let found = at-find judged in
-    answered (begun found .pre) refl (found .find .ensures) 1 _ (benchAt _) (judged .judge-bench .ensures) (c .before .before .authenticate .ensures)
+    answered (begun found .pre .0) refl (found .find .ensures) 1 _ (benchAt _) (judged .judge-bench .ensures) (c .before .before .authenticate .ensures)
 
 pub bench-authenticates-spec : {M : Type 1} → statement M
 bench-authenticates-spec = tie.close (tie.spec find-requires judge-bench-requires authenticate-requires same-length returns)

@@ -16,14 +16,14 @@ begun c = c .before .before
 
 judge-desk-requires : tie.Need-judge-desk-requires
 unfolding occ
-judge-desk-requires c κs = both-stand (begun (c .before) .pre) refl (c .before .find .ensures)
+judge-desk-requires c κs = both-stand (begun (c .before) .pre .0) refl (c .before .find .ensures)
 
 abbrev at-find : tie.After-judge-desk → tie.After-find
 at-find c = c .before .before
 
 authenticate-requires : tie.Need-authenticate-requires
 unfolding occ
-authenticate-requires c κs = let found = at-find (c .before) in till-behind (begun found .pre) refl (found .find .ensures)
+authenticate-requires c κs = let found = at-find (c .before) in till-behind (begun found .pre .0) refl (found .find .ensures) (begun found .pre .1)
 
 same-length : tie.Need-same-length
 same-length c = search needs
@@ -33,7 +33,7 @@ unfolding occ deskAuthenticates deskAt
 returns c =
     let judged = c .before .before .before .before in
     let found = at-find judged in
-    answered (begun found .pre) refl (found .find .ensures) 2 _ (deskAt _) (judged .judge-desk .ensures) (c .before .before .authenticate .ensures)
+    answered (begun found .pre .0) refl (found .find .ensures) 2 _ (deskAt _) (judged .judge-desk .ensures) (c .before .before .authenticate .ensures)
 
 pub desk-authenticates-spec : {M : Type 1} → statement M
 desk-authenticates-spec = tie.close (tie.spec find-requires judge-desk-requires authenticate-requires same-length returns)

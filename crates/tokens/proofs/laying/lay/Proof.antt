@@ -1,76 +1,62 @@
--- The first i tokens are laid.
-use mathlib.Core.Path.{_≡_, refl, sym, _∙_}
-use Prim.Native.Nat.{_≤_, _<_, _-_}
-use native.Mathlib.Omega.{arith}
-use lib.ListN.{length, take, length-set}
-use Rattle.tokens.specs.Laid.{laid}
-use Rattle.tokens.proofs.laying.Laying.{laid-nothing, laid-next, laid-enough}
+-- The fours leave at most three tokens, and each of these is laid where there is one.
+use Rattle.tokens.proofs.laying.Laying.{laid-last}
 use borrow.Author.Needs.{needs}
 use Rattle.tokens.proofs.laying.lay.Statement.{statement}
 use Rattle.tokens.proofs.laying.lay.Tie as tie
 
-abbrev Inv-loop : tie.InvT-loop
-Inv-loop out₀ tokens n i₀ out i = (i ≤ n) × (length out ≡ length out₀) × (out ≡ laid (take i tokens) out₀)
-
-abbrev μ-loop : tie.MeasureT-loop
-μ-loop out₀ tokens n i₀ out i = n - i
-
-smaller-requires : tie.Need-smaller-requires Inv-loop μ-loop
+smaller-requires : tie.Need-smaller-requires
 smaller-requires c κs = search needs
 
-loop-holds : tie.Need-loop-holds Inv-loop μ-loop
-loop-holds c = (omega arith, refl, sym (laid-nothing _))
+lay-fours-requires : tie.Need-lay-fours-requires
+lay-fours-requires c κs = search needs
 
-mul-out : tie.Need-mul-out Inv-loop μ-loop
-mul-out c = search needs
+lay-one-requires : tie.Need-lay-one-requires
+lay-one-requires c κs = search needs
 
-shared-slice-read-out : tie.Need-shared-slice-read-out Inv-loop μ-loop
-shared-slice-read-out c = search needs
+add-lay-one : tie.Need-add-lay-one
+add-lay-one c = search needs
 
-mul-out-2 : tie.Need-mul-out-2 Inv-loop μ-loop
-mul-out-2 c = search needs
+lay-one-requires-2 : tie.Need-lay-one-requires-2
+lay-one-requires-2 c κs = search needs
 
-slice-write-out : tie.Need-slice-write-out Inv-loop μ-loop
-slice-write-out c = search needs
+add-lay-one-2 : tie.Need-add-lay-one-2
+add-lay-one-2 c = search needs
 
-add-i : tie.Need-add-i Inv-loop μ-loop
-add-i c = search needs
+lay-one-requires-3 : tie.Need-lay-one-requires-3
+lay-one-requires-3 c κs = search needs
 
-loop-less : tie.Need-loop-less Inv-loop μ-loop
-loop-less c = search needs
+same-length : tie.Need-same-length
+same-length c = search needs
 
-abbrev begun : tie.At-loop Inv-loop μ-loop → tie.Start Inv-loop μ-loop
-begun c = c .before .before .before .before
+abbrev at-first : tie.After-slice-known5 → tie.After-lay-one
+at-first c = c .before .before .before .before .before .before .before .before .before .before
 
-loop-again : tie.Need-loop-again Inv-loop μ-loop
-loop-again c =
-    let l = c .before .before in
-    let s = begun l in
-    let h : l .loop .i < length (s .args .tokens .now) = omega (arith, l .before .smaller .ensures) in
-    (omega arith, simp length-set (omega arith), rw (l .loop .inv .2) (laid-next (s .args .tokens .now) (s .args .out .now) (l .loop .i) h))
+abbrev at-fours : tie.After-slice-known5 → tie.After-lay-fours
+at-fours c = at-first c .before .before .before .before
 
-same-length : tie.Need-same-length Inv-loop μ-loop
-same-length c = c .before .loop .inv .1
+abbrev at-smaller : tie.After-slice-known5 → tie.After-smaller
+at-smaller c = at-fours c .before .before
 
-returns : tie.Need-returns Inv-loop μ-loop
+returns : tie.Need-returns
 returns c =
-    let s = begun (c .before) in
-    c .before .loop .inv .2 ∙ laid-enough (c .before .loop .i) (s .args .tokens .now) (s .args .out .now) (omega (arith, c .before .before .smaller .ensures))
+    let s = at-smaller c .before .before .before in
+    let f = at-fours c .lay-fours in
+    laid-last (s .args .tokens .now) (s .args .out .now) _ (at-smaller c .smaller .ensures) _ _ _ _ _
+    (f .ensures .0) (f .ensures .1) (f .ensures .2)
+    (at-first c .lay-one .ensures)
+    (c .before .before .before .before .before .before .lay-one2 .ensures)
+    (c .before .before .lay-one3 .ensures)
 
 pub lay-spec : {M : Type 1} → statement M
 lay-spec =
     tie.close
     (tie.spec
-    Inv-loop
-    μ-loop
     smaller-requires
-    loop-holds
-    mul-out
-    shared-slice-read-out
-    mul-out-2
-    slice-write-out
-    add-i
-    loop-less
-    loop-again
+    lay-fours-requires
+    lay-one-requires
+    add-lay-one
+    lay-one-requires-2
+    add-lay-one-2
+    lay-one-requires-3
     same-length
     returns)
