@@ -11,22 +11,8 @@ use Rattle.rules.specs.Lists.{ℕ, suc, _+_, _*_, _-_, List, [], _∷_, _++_, l
 use Rattle.rules.specs.Hall.{mostHeld}
 use Rattle.rules.specs.Records.{words, cells, withWord, blockAt, recordAt, put}
 use Rattle.tokens.specs.Moved.{moved, Forth}
-use Rattle.laws.proofs.Blocks.{block-same, block-again, block-other, block-long, block-length}
+use Rattle.laws.proofs.Blocks.{block-long}
 use Rattle.laws.proofs.Parts.{words-lent, words-back}
-
--- ---- record k was put: the records then, and another put over it
-module _ (k : ℕ) (r b new : List ℕ) (e : new ≡ put k r b) (long : length r ≡ words) (fits : words * k + words ≤ length b) where
-  pub put-there : recordAt k new ≡ r
-  put-there = ap (recordAt k) e ∙ block-same words k r b long fits
-
-  pub put-elsewhere : (j : ℕ) → j < k → recordAt j new ≡ recordAt j b
-  put-elsewhere j l = ap (recordAt j) e ∙ block-other words k r b long fits j (λ q. omega arith)
-
-  pub put-over : (r₁ : List ℕ) → put k r₁ new ≡ put k r₁ b
-  put-over r₁ = ap (put k r₁) e ∙ block-again words k r b long fits r₁
-
-  pub put-size : length new ≡ length b
-  put-size = ap length e ∙ block-length words k r b long fits
 
 -- ---- a record of the head of r and other cells
 set-behind : (h ys : List ℕ) (i x : ℕ) → set (h ++ ys) (length h + i) x ≡ h ++ set ys i x

@@ -7,10 +7,24 @@ use Rattle.rules.specs.Lists.{ℕ, _+_, _*_, _-_, List, length, take, drop}
 use Rattle.rules.specs.Hall.{mostHeld}
 use Rattle.rules.specs.Records.{words, filled, made, withWord, recordAt, put}
 use Rattle.rules.specs.Steps.{dealt, fresh}
-use Rattle.laws.proofs.Blocks.{block-same, block-again, block-other, block-long}
+use Rattle.laws.proofs.Blocks.{block-same, block-again, block-other, block-long, block-length}
 use Rattle.laws.proofs.Made.{made-long, with-long}
 use Rattle.tokens.specs.Marks.{unmarked}
 use Rattle.tokens.proofs.marking.Closing.{unmarked-short}
+
+-- record k was put: the records then, and another put over it
+module _ (k : ℕ) (r b new : List ℕ) (e : new ≡ put k r b) (long : length r ≡ words) (fits : words * k + words ≤ length b) where
+  pub put-there : recordAt k new ≡ r
+  put-there = ap (recordAt k) e ∙ block-same words k r b long fits
+
+  pub put-elsewhere : (j : ℕ) → (j ≡ k → ⊥) → recordAt j new ≡ recordAt j b
+  put-elsewhere j ne = ap (recordAt j) e ∙ block-other words k r b long fits j ne
+
+  pub put-over : (r₁ : List ℕ) → put k r₁ new ≡ put k r₁ b
+  put-over r₁ = ap (put k r₁) e ∙ block-again words k r b long fits r₁
+
+  pub put-size : length new ≡ length b
+  put-size = ap length e ∙ block-length words k r b long fits
 
 -- a record written over a book that is known, made from what is known
 pub written : (k a a₁ s : ℕ) (xs xs₁ b b₁ new : List ℕ) → new ≡ put k (made a₁ s xs₁) b₁ → a₁ ≡ a → xs₁ ≡ xs → b₁ ≡ b
@@ -29,35 +43,26 @@ changed-twice k w x x₁ v y r b b₁ b₂ new e e₂ fits f g h =
     let r₁ : List ℕ = withWord w x₁ (recordAt k b₁) in
     let long : length r₁ ≡ words = with-long w x₁ (recordAt k b₁) ∙ block-long words k b₁ fits in
     let both : new ≡ put k (withWord v y r₁) b₁ =
-    e
-    ∙ ap (λ (z : List ℕ). put k (withWord v y (recordAt k z)) z) e₂
-    ∙ ap (λ (z : List ℕ). put k (withWord v y z) (put k r₁ b₁)) (block-same words k r₁ b₁ long fits)
-    ∙ block-again words k r₁ b₁ long fits (withWord v y r₁) in
+    e ∙ ap (λ (z : List ℕ). put k (withWord v y z) b₂) (put-there k r₁ b₁ b₂ e₂ long fits) ∙ put-over k r₁ b₁ b₂ e₂ long fits (withWord v y r₁) in
     cc
 
 -- record j, after a record before it, or behind it, was written
 module _ (k j a s : ℕ) (xs b new : List ℕ) (e : new ≡ put k (made a s xs) b) (fits : words * k + words ≤ length b) (l : length xs ≤ mostHeld) where
-  other-stays : (j ≡ k → ⊥) → recordAt j new ≡ recordAt j b
-  other-stays ne = ap (recordAt j) e ∙ block-other words k (made a s xs) b (made-long a s xs l) fits j ne
-
   pub later-stays : k < j → recordAt j new ≡ recordAt j b
-  later-stays h = other-stays (λ q. omega arith)
+  later-stays h = put-elsewhere k (made a s xs) b new e (made-long a s xs l) fits j (λ q. omega arith)
 
   pub earlier-stays : j < k → recordAt j new ≡ recordAt j b
-  earlier-stays h = other-stays (λ q. omega arith)
+  earlier-stays h = put-elsewhere k (made a s xs) b new e (made-long a s xs l) fits j (λ q. omega arith)
 
 -- a record made, copied, and given its amount in the copy
 pub copied : (k j a : ℕ) (xs b b₁ b₂ b₃ : List ℕ) → b₁ ≡ put k (made 0 0 xs) b → words * k + words ≤ length b → words * j + words ≤ length b₁ → length xs ≤ mostHeld
     → b₂ ≡ put j (recordAt k b₁) b₁ → b₃ ≡ put j (withWord 1 a (recordAt j b₂)) b₂ → b₃ ≡ put j (made a 0 xs) b₁
 unfolding withWord made filled
 copied k j a xs b b₁ b₂ b₃ e₁ fits fits₁ l e₂ e₃ =
-    let own : recordAt k b₁ ≡ made 0 0 xs = ap (recordAt k) e₁ ∙ block-same words k (made 0 0 xs) b (made-long 0 0 xs l) fits in
-    let twice : b₂ ≡ put j (made 0 0 xs) b₁ = e₂ ∙ ap (λ (r : List ℕ). put j r b₁) own in
-    let there : recordAt j b₂ ≡ made 0 0 xs = ap (recordAt j) twice ∙ block-same words j (made 0 0 xs) b₁ (made-long 0 0 xs l) fits₁ in
-    e₃
-    ∙ ap (λ (r : List ℕ). put j (withWord 1 a r) b₂) there
-    ∙ ap (put j (made a 0 xs)) twice
-    ∙ block-again words j (made 0 0 xs) b₁ (made-long 0 0 xs l) fits₁ (made a 0 xs)
+    let r : List ℕ = made 0 0 xs in
+    let long : length r ≡ words = made-long 0 0 xs l in
+    let twice : b₂ ≡ put j r b₁ = e₂ ∙ ap (λ (x : List ℕ). put j x b₁) (put-there k r b b₁ e₁ long fits) in
+    e₃ ∙ ap (λ (x : List ℕ). put j (withWord 1 a x) b₂) (put-there j r b₁ b₂ twice long fits₁) ∙ put-over j r b₁ b₂ twice long fits₁ (made a 0 xs)
 
 -- the part of the token list that code lends
 pub next : (d n : ℕ) (ts b : List ℕ) → d ≡ dealt b → take (d + n - d) (drop d ts) ≡ fresh ts b n

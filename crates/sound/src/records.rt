@@ -97,7 +97,8 @@ fn is_line(rec: &[u32]) -> bool
     searching::smaller(sales, 1) == searching::smaller(count, 1)
 }
 
-// What record k is asked for its place: the desk, a carnet, the desk's view of a customer and of a bench, a till, a line.
+// What record k is asked for its place: the desk, a carnet, the desk's view of a customer and of a bench, a till, a line. It is counted
+// on from group to group: the groups' first numbers, kept at hand, would take more stack.
 fn fits_place(h: Hall, list: &[u32], k: usize, rec: &[u32]) -> bool
     requires { ⌜ length (now rec) ≡ words ⌝ }
     ensures { λ r. ⌜ r ≡ placeGood h (now (list .entry)) k (now (rec .entry)) ⌝ }

@@ -18,9 +18,9 @@ use Rattle.laws.proofs.Parts.{part-block, back-block}
 use Rattle.laws.proofs.Zeros.{zeros, zero-zeros, drop-zeros}
 use Rattle.changes.specs.Found.{Neat}
 use Rattle.changes.specs.Sales.{soldCells, lineCells, sold, Room}
-use Rattle.changes.proofs.Written.{changed-twice}
+use Rattle.changes.proofs.Written.{put-there, put-elsewhere, put-over, put-size, changed-twice}
 use Rattle.changes.proofs.Kept.{held-size}
-use Rattle.changes.proofs.Cells.{put-there, put-elsewhere, put-over, put-size, first-two, head-long, head-cells, head-with, head-stays, cells-moved}
+use Rattle.changes.proofs.Cells.{first-two, head-long, head-cells, head-with, head-stays, cells-moved}
 
 -- ---- room for n cells before the first m
 module _ (m n : ℕ) (cs : List ℕ) (fits : n + m ≤ length cs) where
@@ -112,7 +112,7 @@ module _ (f : Form) (b : List ℕ) (carnet line n : ℕ) (room : Room f b carnet
     sale-over mid e =
         let r : List ℕ = take 4 (recordAt line b) ++ moved 0 m i (cells (recordAt line b)) in (
           put-there line r b mid e roomy-long (room .line-inside),
-          put-elsewhere line r b mid e roomy-long (room .line-inside) carnet (room .apart),
+          put-elsewhere line r b mid e roomy-long (room .line-inside) carnet (λ q. omega (arith, room .apart)),
           put-size line r b mid e roomy-long (room .line-inside),
           put-over line r b mid e roomy-long (room .line-inside) _
               ∙ ap (λ (x : List ℕ). put line (take 4 (recordAt line b) ++ x) b) sale-laid,
@@ -240,7 +240,7 @@ module _ (f : Form) (b : List ℕ) (carnet line n : ℕ) (room : Room f b carnet
         ∙ ap (λ (x : List ℕ). put line x b) (rw (stands, em, es, eo))
 
     carnet-stays : recordAt carnet headed ≡ recordAt carnet b
-    carnet-stays = put-elsewhere line lineSold b headed line-headed line-sold-long (room .line-inside) carnet (room .apart)
+    carnet-stays = put-elsewhere line lineSold b headed line-headed line-sold-long (room .line-inside) carnet (λ q. omega (arith, room .apart))
 
     -- the carnet still is what it was: all its tokens are within the cells that are dropped or moved
     pub carnet-waits : (c k : ℕ) → c ≡ getD (recordAt carnet b) 2 0 → k ≡ min c (32 - n)
