@@ -33,6 +33,7 @@ static const struct {
     {"bench authenticates", RUN, 7},
     {"desk authenticates", RUN, 8},
     {"clear", RUN, 9},
+    {"clear what lives", RUN, 11},
     {"top up", RUN, 10},
     {"is a full book sound", SOUND, FULL},
     {"is a day's book sound", SOUND, DAY},

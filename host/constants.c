@@ -89,6 +89,10 @@ static void dead(uint8_t bench, uint8_t customer)
     uint16_t answer = step(9, bench, customer, 0);
     is("the verdict on a dead token", GS_VERDICT(answer), 15);
     is("its place", GS_SECOND(answer), 2);
+    answer = step(11, bench, customer, 0);
+    is("the verdict where what lives is cleared", GS_VERDICT(answer), 0);
+    is("how many were dropped", GS_SECOND(answer), 2);
+    is("the balance", book[GS_WORD(GS_BENCH_VIEW(bench), GS_AMOUNT)], 4);
 }
 
 int main(void)

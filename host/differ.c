@@ -19,9 +19,10 @@ static const struct counts RIGHT = {0, GS_BOOK_WORDS, GS_BOOK_WORDS, 0, 0, 0, GS
 enum { NUMBERS = 18 };
 enum tally {
     PLAIN_STEPS, SLIP_STEPS, PLAIN_SOUND, SLIP_SOUND, OPENED, READER, WRITER, STOCKS, HANDSHAKES, CLEARS, TOP_UPS,
-    PLAIN_PLACES, SLIP_PLACES, WITHIN_SLIPS, ODD_SECONDS, TALLIES
+    LIVE_CLEARS, PLAIN_PLACES, SLIP_PLACES, WITHIN_SLIPS, PLAIN_DROPPED, SLIP_DROPPED, WHAT_LIVED, IN_PART, ODD_SECONDS,
+    TALLIES
 };
-enum { STOCK = 5, DESK_AUTHENTICATES = 8, CLEAR, TOP_UP };
+enum { STOCK = 5, DESK_AUTHENTICATES = 8, CLEAR, TOP_UP, CLEAR_LIVING };
 
 static const struct {
     const char *name;
@@ -29,11 +30,12 @@ static const struct {
 } ANSWERS[TALLIES] = {
     {"plain book", 0x3ffff}, {"slip book", 0x3ffff},   {"plain sound", 3},    {"slip sound", 3},
     {"slips opened", 3},     {"reader", 0x1000d},      {"writer", 0x1000d},   {"stocks", 0x4af},
-    {"handshakes", 0x2602f}, {"clears", 0x2806f},      {"top ups", 0xaf},     {"plain places", 7},
-    {"slip places", 7},      {"within slips", 6},      {"odd seconds", 0x10002},
+    {"handshakes", 0x2602f}, {"clears", 0x2806f},      {"top ups", 0xaf},     {"live clears", 0x2006f},
+    {"plain places", 7},     {"slip places", 7},       {"within slips", 6},   {"plain drops", 7},
+    {"slip drops", 7},       {"what lived", 0xf},      {"in part", 3},        {"odd seconds", 0x10002},
 };
 static const enum tally STEPS[] = {PLAIN_STEPS, SLIP_STEPS}, SOUND[] = {PLAIN_SOUND, SLIP_SOUND};
-static const enum tally PLACES[] = {PLAIN_PLACES, SLIP_PLACES};
+static const enum tally PLACES[] = {PLAIN_PLACES, SLIP_PLACES}, DROPPED[] = {PLAIN_DROPPED, SLIP_DROPPED};
 static size_t tallies[TALLIES][NUMBERS];
 
 static uint8_t tell(enum tally tally, uint8_t answer)
@@ -44,26 +46,29 @@ static uint8_t tell(enum tally tally, uint8_t answer)
     return answer;
 }
 
-/* The place of a dead token. A line has no more than 32; in the tallies 2 stands for every place from there on. */
-static void tell_place(enum tally tally, uint8_t place)
+/* A second number: the place of a dead token, at most 31, or how many were dropped, at most 32. In the tallies 2 stands for
+   every number from there on. */
+static void tell_second(enum tally tally, uint8_t second, uint8_t most)
 {
-    tell(tally, place < 2 ? place : place < 32 ? 2 : place);
+    tell(tally, second < 2 ? second : second <= most ? 2 : second);
 }
 
-/* The two numbers of a step. Stocks, and in this order the desk's authentications, clears and top ups, are counted by
-   themselves too: other kinds get the same numbers, so the books' tallies wouldn't show it if one of these never got what
-   it can get. */
+/* The two numbers of a step. Stocks, and in this order the desk's authentications, clears, top ups and clears of what lives,
+   are counted by themselves too: other kinds get the same numbers, so the books' tallies wouldn't show it if one of these
+   never got what it can get. */
 static uint16_t tell_step(enum form form, uint8_t kind, uint16_t answer)
 {
     uint8_t verdict = GS_VERDICT(answer), second = GS_SECOND(answer);
     if (kind == STOCK)
         tell(STOCKS, verdict);
-    if (kind >= DESK_AUTHENTICATES && kind <= TOP_UP)
+    if (kind >= DESK_AUTHENTICATES && kind <= CLEAR_LIVING)
         tell((enum tally)(HANDSHAKES + kind - DESK_AUTHENTICATES), verdict);
     if (tell(STEPS[form], verdict) == 15)
-        tell_place(PLACES[form], second);
+        tell_second(PLACES[form], second, 31);
+    else if (kind == CLEAR_LIVING && verdict == 0)
+        tell_second(DROPPED[form], second, 32);
     else if (second != 0)
-        differs(ANSWERS[STEPS[form]].name, "a second number without a 15", NO_PLACE, second, second);
+        differs(ANSWERS[STEPS[form]].name, "a second number that says nothing", NO_PLACE, second, second);
     return answer;
 }
 
@@ -74,7 +79,7 @@ static void tell_within(const uint32_t *line, uint8_t place)
     for (size_t slip = 0; slip < line[GS_SALES] && begins < place; slip++)
         begins += line[GS_CELLS + 2 * slip + 1];
     if (begins != place)
-        tell_place(WITHIN_SLIPS, place);
+        tell_second(WITHIN_SLIPS, place, 31);
 }
 
 /* Prints each number with how often it came up; answers whether one never did. */
@@ -192,14 +197,68 @@ static void spoil(enum form form, struct counts c)
     }
 }
 
+/* ---- what lives ---- */
+
+static int is_in(const uint32_t *view, uint32_t token)
+{
+    for (size_t cell = 0; cell < view[GS_COUNT]; cell++)
+        if (view[GS_CELLS + cell] == token)
+            return 1;
+    return 0;
+}
+
+/* How many of the tokens that a slip of a sound book opens to are in a view. */
+static size_t alive(struct counts c, const uint32_t *slip, const uint32_t *view)
+{
+    const uint32_t *first = LENT[HAND].tokens + place_in(LENT[HAND].tokens, c.tokens, slip[0]);
+    size_t found = 0;
+    for (size_t i = 0; i < slip[1]; i++)
+        found += is_in(view, first[i]);
+    return found;
+}
+
+/* Whether a line of a sound slip book has a slip that is dead in part. */
+static int has_part(struct counts c, const uint32_t *book, size_t bench, size_t customer)
+{
+    const uint32_t *line = book + GS_WORD(GS_LINE(bench, customer), 0), *slip = line + GS_CELLS;
+    for (size_t left = line[GS_SALES]; left > 0; left--, slip += 2) {
+        size_t live = alive(c, slip, book + GS_WORD(GS_CUSTOMER_VIEW(customer), 0));
+        if (live > 0 && live < slip[1])
+            return 1;
+    }
+    return 0;
+}
+
+/* What a granted clear of what lives has done to a book: the line is empty, and each of its tokens was dropped, or went from
+   the view and is paid for. Counted are those where nothing waited, all of it lived, some or nothing. */
+static void tell_lived(enum form form, struct counts c, const uint32_t *before, struct entry e, size_t dropped)
+{
+    const uint32_t *book = LENT[HAND].book;
+    size_t balance = GS_WORD(GS_BENCH_VIEW(e.bench), GS_AMOUNT), held = GS_WORD(GS_CUSTOMER_VIEW(e.customer), GS_COUNT);
+    size_t waiting = GS_WORD(GS_LINE(e.bench, e.customer), GS_COUNT), waited = before[waiting];
+    size_t paid = book[balance] - before[balance], struck = before[held] - book[held];
+    if (paid != struck)
+        disagrees("struck against paid", "tokens", NO_PLACE, struck, paid);
+    if (waited != paid + dropped)
+        disagrees("what waited against what was paid and dropped", "tokens", NO_PLACE, waited, paid + dropped);
+    if (book[waiting] != 0)
+        disagrees("what waited against what waits", "tokens", NO_PLACE, waited, book[waiting]);
+    tell(WHAT_LIVED, waited == 0 ? 0 : dropped == 0 ? 1 : paid > 0 ? 2 : 3);
+    if (form == SLIP)
+        tell(IN_PART, (uint8_t)has_part(c, before, e.bench, e.customer));
+}
+
 /* ---- runs and steps ---- */
 
-/* The line is still what a 15 was about: a refused step leaves it. */
 static uint16_t try_step(enum form form, struct counts c, struct entry e)
 {
+    static uint32_t before[BOOK_ROOM];
+    memcpy(before, LENT[HAND].book, sizeof before);
     uint16_t answer = tell_step(form, e.kind, both_step(form, c, e));
     if (form == SLIP && GS_VERDICT(answer) == 15)
-        tell_within(LENT[HAND].book + GS_WORD(GS_LINE(e.bench, e.customer), 0), GS_SECOND(answer));
+        tell_within(before + GS_WORD(GS_LINE(e.bench, e.customer), 0), GS_SECOND(answer));
+    if (e.kind == CLEAR_LIVING && GS_VERDICT(answer) == 0)
+        tell_lived(form, c, before, e, GS_SECOND(answer));
     return answer;
 }
 
@@ -269,27 +328,43 @@ static uint8_t try_tape(enum form form, struct counts c)
     return c.tokens <= 1000 && chance(20) ? try_steps(form, c) : tell_run(form, c);
 }
 
-/* One tape in both forms from empty: verdicts and second numbers are the same, and the slip book opens to the plain one. */
-static void try_from_empty(struct counts c)
+/* One tape in a slip book that is sound, or empty over any list, and in the plain book that it opens to: verdicts and second
+   numbers are the same, and the one opens to the other again. Answers what the runs did. */
+static uint8_t try_both_forms(struct counts c)
 {
     static struct lent plain;
-    c = lay_tape(c, chance(98));
-    share();
-    both_empty(c);
+    static uint32_t slips[BOOK_ROOM];
+    memcpy(slips, LENT[HAND].book, sizeof slips);
+    if (tell(OPENED, both_open(c)) == 0)
+        lend_book(LENT[HAND].opened);
     uint8_t answer = try_tape(PLAIN, c);
     plain = LENT[HAND];
-    both_empty(c);
+    lend_book(slips);
     uint8_t slip_answer = try_tape(SLIP, c);
     if (slip_answer != answer)
         disagrees("plain against slip", "answer", NO_PLACE, answer, slip_answer);
     if (answer != 0)
-        return;
+        return answer;
     for (size_t i = 0; i < c.verdicts; i++)
         agree("plain against slip", i, written(&plain, i), written(&LENT[HAND], i));
     tell(OPENED, both_open(c));
     for (size_t i = 0; i < GS_BOOK_WORDS; i++)
         if (plain.book[i] != LENT[HAND].opened[i])
             disagrees("plain against slip", "book", i, plain.book[i], LENT[HAND].opened[i]);
+    return 0;
+}
+
+/* From empty; then no slip is dead in part. */
+static void try_from_empty(struct counts c)
+{
+    c = lay_tape(c, chance(98));
+    share();
+    both_empty(c);
+    if (try_both_forms(c) != 0)
+        return;
+    for (size_t line = 0; line < GS_BENCHES * GS_CUSTOMERS; line++)
+        if (has_part(c, LENT[HAND].book, line / GS_CUSTOMERS, line % GS_CUSTOMERS))
+            disagrees("a book that began empty", "a slip that is dead in part", line, 0, 1);
 }
 
 static size_t draw_wrong(size_t right, size_t room)
@@ -314,19 +389,27 @@ static void try_odd_seconds(enum form form, struct counts c, uint8_t unsound)
         try_refused(form, c, unsound ? 1 : 16);
 }
 
-/* Each line that waits is cleared from the same book, with a handshake loaded for it: the tills of a bent book are seldom
-   good for one, so that tapes alone would come to few of its lines. */
-static void try_clears(enum form form, struct counts c)
+/* A clear of either kind, with a handshake loaded for it; then the book is lent as it was. */
+static uint16_t try_clear(enum form form, struct counts c, uint8_t kind, uint8_t bench, uint8_t customer)
 {
     static uint32_t kept[BOOK_ROOM];
     memcpy(kept, LENT[HAND].book, sizeof kept);
+    load_handshake(bench, 2);
+    uint16_t answer = try_step(form, c, (struct entry){kind, bench, customer, 0, 0});
+    lend_book(kept);
+    return answer;
+}
+
+/* Each line that waits is cleared from the same book: the tills of a bent book are seldom good for a handshake, so that tapes
+   alone would come to few of its lines. */
+static void try_clears(enum form form, struct counts c)
+{
     for (uint8_t line = 0; line < GS_BENCHES * GS_CUSTOMERS; line++) {
-        struct entry clear = {CLEAR, line / GS_CUSTOMERS, line % GS_CUSTOMERS, 0, 0};
-        if (kept[GS_WORD(GS_LINE(clear.bench, clear.customer), GS_COUNT)] == 0)
+        uint8_t bench = line / GS_CUSTOMERS, customer = line % GS_CUSTOMERS;
+        if (LENT[HAND].book[GS_WORD(GS_LINE(bench, customer), GS_COUNT)] == 0)
             continue;
-        load_handshake(clear.bench, 2);
-        try_step(form, c, clear);
-        lend_book(kept);
+        try_clear(form, c, CLEAR, bench, customer);
+        try_clear(form, c, CLEAR_LIVING, bench, customer);
     }
 }
 
@@ -346,7 +429,10 @@ static void try_loaded(struct counts c, int spoilt)
     uint8_t plain = tell(PLAIN_SOUND, both_sound(PLAIN, c)), slip = tell(SLIP_SOUND, both_sound(SLIP, c));
     tell(OPENED, both_open(c));
     try_odd_seconds(form, c, form == PLAIN ? plain : slip);
-    try_tape(form, c);
+    if (form == SLIP && slip == 0)
+        try_both_forms(c);
+    else
+        try_tape(form, c);
     tell(SOUND[form], both_sound(form, c));
 }
 
@@ -479,11 +565,15 @@ static void try_example(enum form form)
    is topped up to more than anybody may join with, and trades on. The other's updates kill what waits in the line, and
    further sales stand before it. In the end the first has 32 tokens, all of which wait, in two sales, and none is left. */
 enum { FIRST = 100, SECOND, NOBODY, BENCH, NO_BENCH };
-enum { TOUR_TOKENS = 86 }; /* as many as are dealt in the end */
+enum { TOUR_TOKENS = 103 }; /* as many as are dealt in the end */
 #define DEAD_AT(place) (15 | (place) << 8)
+#define DROPS(tokens) ((tokens) << 8)
 #define BY_BENCH(answer) {{7, BENCH, 0, 0, 0}, 1, answer}
 #define BY_DESK(answer) {{8, BENCH, 0, 0, 0}, 1, answer}
 #define CLEAR_OF(customer, answer) {{9, BENCH, customer, 0, 0}, 1, answer}
+#define LIVING_OF(customer, answer) {{11, BENCH, customer, 0, 0}, 1, answer}
+#define UPDATE_OF(customer, amount) {{4, 0, customer, 0, amount}, 1, 0}
+#define SALE_OF(customer, amount) {{6, BENCH, customer, 0, amount}, 1, 0}
 #define STOCK_OF(amount, answer) {{5, BENCH, 0, 0, amount}, 1, answer}
 static const struct {
     struct entry entry;
@@ -493,6 +583,7 @@ static const struct {
     {{1, 0, FIRST, 0, 50}, 1, 0},  {{1, 0, FIRST, 0, 50}, 1, 4},     {{2, BENCH, 0, 0, 0}, 1, 0},
     {{1, 0, SECOND, 0, 9}, 1, 0},  {{4, 0, NOBODY, 0, 1}, 1, 5},     {{6, BENCH, FIRST, 0, 0}, 1, 6},
     {{8, NO_BENCH, 0, 0, 0}, 1, 5}, {{5, NO_BENCH, 0, 0, 33}, 1, 5}, CLEAR_OF(NOBODY, 5), CLEAR_OF(FIRST, 6),
+    LIVING_OF(NOBODY, 5), LIVING_OF(FIRST, 6),
     {{3, BENCH, FIRST, 0, 0}, 1, 0}, {{3, BENCH, SECOND, 0, 0}, 1, 0}, {{1, 0, NOBODY, 0, 1000001}, 1, 7},
     {{4, 0, FIRST, 0, 51}, 1, 8},  {{4, 0, FIRST, 0, 33}, 1, 9},     {{4, 0, FIRST, 0, 17}, 1, 0},
     {{6, BENCH, FIRST, 0, 18}, 1, 11}, {{6, BENCH, FIRST, 0, 1}, 16, 0}, {{6, BENCH, FIRST, 0, 1}, 1, 12},
@@ -517,9 +608,22 @@ static const struct {
     {{6, BENCH, SECOND, 0, 1}, 1, 0}, CLEAR_OF(SECOND, DEAD_AT(1)),  {{4, 0, SECOND, 0, 2}, 1, 0},
     {{6, BENCH, SECOND, 0, 3}, 1, 0}, CLEAR_OF(SECOND, DEAD_AT(3)),
     BY_BENCH(0), CLEAR_OF(SECOND, 17), BY_DESK(0),
-    {{11, 0, 0, 0, 0}, 1, 2},      {{2, 8, 0, 0, 0}, 1, 3},          {{5, BENCH, 0, 1, 1}, 1, 2},
+
+    /* Three of the five live. The line is empty then, and clearing what lives of it needs a handshake too, and uses it up. */
+    LIVING_OF(SECOND, DROPS(2)), LIVING_OF(SECOND, 17), BY_BENCH(0), LIVING_OF(SECOND, 17), BY_DESK(0),
+    LIVING_OF(SECOND, 0), CLEAR_OF(SECOND, 17),
+    /* Of two none lives; then the one that waits does; then it doesn't. */
+    UPDATE_OF(SECOND, 2), SALE_OF(SECOND, 2), UPDATE_OF(SECOND, 0), BY_BENCH(0), BY_DESK(0), LIVING_OF(SECOND, DROPS(2)),
+    STOCK_OF(8, 0), SALE_OF(SECOND, 1), BY_BENCH(0), BY_DESK(0), LIVING_OF(SECOND, 0),
+    SALE_OF(SECOND, 1), UPDATE_OF(SECOND, 0), BY_BENCH(0), BY_DESK(0), LIVING_OF(SECOND, DROPS(1)),
+    /* Once more three live tokens before two dead ones. */
+    SALE_OF(SECOND, 1), UPDATE_OF(SECOND, 0), SALE_OF(SECOND, 1), UPDATE_OF(SECOND, 2), SALE_OF(SECOND, 3),
+    BY_BENCH(0), BY_DESK(0), CLEAR_OF(SECOND, DEAD_AT(3)),
+
+    {{12, 0, 0, 0, 0}, 1, 2},      {{2, 8, 0, 0, 0}, 1, 3},          {{5, BENCH, 0, 1, 1}, 1, 2},
     {{5, 8, 0, 0, 1}, 1, 3},       {{8, BENCH, 0, 0, 1}, 1, 2},      {{8, 8, 0, 0, 0}, 1, 3},
-    {{9, BENCH, FIRST, 1, 0}, 1, 2},  {{9, 8, FIRST, 0, 0}, 1, 3},
+    {{9, BENCH, FIRST, 1, 0}, 1, 2},  {{9, 8, FIRST, 0, 0}, 1, 3},   {{11, BENCH, SECOND, 0, 2}, 1, 2},
+    {{11, BENCH, SECOND, 1, 0}, 1, 2}, {{11, 8, SECOND, 0, 0}, 1, 3}, {{11, BENCH, 16, 0, 0}, 1, 3},
     {{10, 1, FIRST, 0, 1}, 1, 2},  {{10, 0, FIRST, 1, 1}, 1, 2},     {{10, 0, 16, 0, 1}, 1, 3},
     {{10, 0, NOBODY, 0, 2000000}, 1, 5}, {{10, 0, FIRST, 0, 4294967295}, 1, 7}, {{10, 0, FIRST, 0, 1999942}, 1, 7},
     {{10, 0, FIRST, 0, 1999941}, 1, 0}, {{10, 0, SECOND, 0, 1}, 1, 7}, {{10, 0, SECOND, 0, 0}, 1, 0},
@@ -630,19 +734,19 @@ static void try_exchanged(enum form form, struct counts c, uint8_t bench)
 
 /* The tokens that the desk's view of the first customer loses, one after the other, by their places in the view as the
    tour leaves it; and the place in the line of the first that is dead then. The line has the last 29 of the view before
-   the first three, so that both slips become dead in part. */
+   the first three, so that both slips become dead in part; what lives is paid for token by token. */
 static const uint8_t LOST[][2] = {{2, 31}, {1, 30}, {0, 29}, {31, 28}, {5, 2}, {4, 1}, {7, 1}, {3, 0}};
 
 static void try_lost(enum form form, struct counts c, uint8_t bench, uint8_t customer)
 {
     uint32_t *view = LENT[HAND].book + GS_WORD(GS_CUSTOMER_VIEW(customer), 0), held[32];
     memcpy(held, view + GS_CELLS, sizeof held);
-    load_handshake(bench, 2);
     for (size_t i = 0; i < sizeof LOST / sizeof LOST[0]; i++) {
         take_out(view, held[LOST[i][0]]);
         share();
         tell(SOUND[form], both_sound(form, c));
-        agree("a token lost", i, DEAD_AT(LOST[i][1]), try_step(form, c, (struct entry){CLEAR, bench, customer, 0, 0}));
+        agree("a token lost", i, DEAD_AT(LOST[i][1]), try_clear(form, c, CLEAR, bench, customer));
+        agree("tokens dropped", i, (uint16_t)DROPS(i + 1), try_clear(form, c, CLEAR_LIVING, bench, customer));
     }
 }
 
@@ -650,7 +754,7 @@ static void try_written(struct counts c)
 {
     tell(READER, both_read(c, c.tape));
     tell(WRITER, both_write(c, (struct entry){7, 0, 0, 0, 0}));
-    tell(WRITER, both_write(c, (struct entry){TOP_UP + 1, 0, 0, 0, 0}));
+    tell(WRITER, both_write(c, (struct entry){CLEAR_LIVING + 1, 0, 0, 0, 0}));
     tell(WRITER, both_write(c, (struct entry){7, 8, 0, 0, 0}));
     c.part = 7;
     tell(WRITER, both_write(c, (struct entry){7, 0, 0, 0, 0}));
@@ -677,13 +781,13 @@ static void try_unsound(enum form form, struct counts c)
     try_lengths(form, c, 1);
     tell(SOUND[form], both_sound(form, c));
     tell(OPENED, both_open(c));
-    for (uint8_t kind = STOCK; kind <= TOP_UP; kind++)
+    for (uint8_t kind = STOCK; kind <= CLEAR_LIVING; kind++)
         agree("a step in an unsound book, of kind", kind, 1, try_step(form, c, (struct entry){kind, 0, 0, 0, 0}));
 }
 
 /* Every number that can be answered is, and is the one that documents 01 and 02 say: those of the tour, then 0 and 1 for
-   each word 3, then those of stocks by what is left, then 14, then 15 with the places that only a loaded book has, 16 for
-   other lengths, and 1 where the desk isn't in use, or where no word could be higher. */
+   each word 3, then those of stocks by what is left, then 14, then 15 and 0 with the second numbers that only a loaded book
+   has, 16 for other lengths, and 1 where the desk isn't in use, or where no word could be higher. */
 static void try_numbers(enum form form)
 {
     struct counts c = RIGHT;

@@ -156,8 +156,14 @@ static void add_late(struct drawing *d, uint8_t bench)
         add(d, 7 + draw(2), bench, 0, 0);
 }
 
+static size_t either_clear(void)
+{
+    return chance(50) ? 9 : 11;
+}
+
 /* A clear and what it needs: so many times in a hundred a fresh stock, as the till may be empty, and both authentications,
-   of which now and then one is missing. */
+   of which now and then one is missing. What lives is cleared in its place, or sometimes behind it, for which a 15 leaves the
+   handshake. */
 static void add_clear(struct drawing *d, uint8_t bench, uint8_t customer, size_t stocked)
 {
     if (chance(stocked))
@@ -168,7 +174,11 @@ static void add_clear(struct drawing *d, uint8_t bench, uint8_t customer, size_t
         add(d, 8, bench, 0, 0);
     if (chance(6))
         add_late(d, bench);
-    add(d, 9, bench, customer, 0);
+    size_t which = draw(100);
+    if (which < 85)
+        add(d, 9, bench, customer, 0);
+    if (which >= 70)
+        add(d, 11, bench, customer, 0);
 }
 
 /* Every line is cleared as a loaded book has it, before an update kills its tokens. Each bench first goes on from a
@@ -179,7 +189,7 @@ static void add_clears(struct drawing *d)
     for (uint8_t m = parties.first_bench; m < parties.first_bench + parties.benches; m++) {
         for (size_t kind = 7 + draw(3); kind < 9; kind++)
             add(d, kind, m, 0, 0);
-        add(d, 9, m, any_customer(), 0);
+        add(d, either_clear(), m, any_customer(), 0);
         for (uint8_t c = parties.first_customer; c < parties.first_customer + parties.customers; c++)
             add_clear(d, m, c, stocked);
     }
@@ -253,16 +263,16 @@ static uint32_t draw_amount(void)
     }
 }
 
-static const uint8_t USES_BENCH[] = {0, 0, 1, 1, 0, 1, 1, 1, 1, 1, 0};
-static const uint8_t USES_CUSTOMER[] = {0, 1, 0, 1, 1, 0, 1, 0, 0, 1, 1};
-static const uint8_t USES_AMOUNT[] = {0, 1, 0, 0, 1, 1, 1, 0, 0, 0, 1};
+static const uint8_t USES_BENCH[] = {0, 0, 1, 1, 0, 1, 1, 1, 1, 1, 0, 1};
+static const uint8_t USES_CUSTOMER[] = {0, 1, 0, 1, 1, 0, 1, 0, 0, 1, 1, 1};
+static const uint8_t USES_AMOUNT[] = {0, 1, 0, 0, 1, 1, 1, 0, 0, 0, 1, 0};
 
 /* The entry, perhaps with one field changed. */
 static struct entry bent(struct entry entry)
 {
     switch (draw(12)) {
     case 0:
-        entry.kind = (uint8_t)(chance(50) ? draw(13) : draw(256));
+        entry.kind = (uint8_t)(chance(50) ? draw(14) : draw(256));
         break;
     case 1:
         entry.bench = (uint8_t)(chance(50) ? draw(10) : draw(256));
@@ -283,7 +293,7 @@ static struct entry bent(struct entry entry)
 /* A well-formed entry of any parties, with numbers just past the hall's among them; then perhaps one field changed. */
 struct entry draw_entry(void)
 {
-    uint8_t kind = (uint8_t)(1 + draw(10));
+    uint8_t kind = (uint8_t)(1 + draw(11));
     return bent((struct entry){kind, USES_BENCH[kind] ? (uint8_t)draw(9) : 0, USES_CUSTOMER[kind] ? (uint8_t)draw(17) : 0,
                                0, USES_AMOUNT[kind] ? draw_amount() : 0});
 }
@@ -310,7 +320,7 @@ void draw_tape(uint8_t *tape, size_t records, int joining)
         else if (scene < 80)
             add_small_sales(&d);
         else if (scene < 85)
-            add(&d, 9, any_bench(), any_customer(), 0);
+            add_entry(&d, bent((struct entry){(uint8_t)either_clear(), any_bench(), any_customer(), 0, 0}));
         else if (scene < 88)
             add_clear(&d, any_bench(), any_customer(), 70);
         else if (scene < 90)
@@ -480,11 +490,19 @@ void take_out(uint32_t *record, uint32_t token)
     record[COUNT] = kept;
 }
 
+size_t place_in(const uint32_t *tokens, size_t n, uint32_t token)
+{
+    size_t place = 0;
+    while (place < n && tokens[place] != token)
+        place++;
+    return place;
+}
+
 /* One token of a line is dead: it goes from the desk's view of the customer. In a slip book that may be any token of a
    slip, so that the slip is dead in part. */
 static void bend_dead(enum form form, const uint32_t *tokens, size_t n, uint32_t *book)
 {
-    size_t place = any_waiting(book), at = 0;
+    size_t place = any_waiting(book);
     const uint32_t *line = record_of(book, place);
     uint32_t *view = record_of(book, CUSTOMER_VIEWS + (place - LINES) % 16);
     if (line[COUNT] == 0 || line[COUNT] > 32 || line[SALES] == 0 || line[SALES] > 16 || view[COUNT] > 32)
@@ -492,8 +510,7 @@ static void bend_dead(enum form form, const uint32_t *tokens, size_t n, uint32_t
     uint32_t dead = line[CELL + draw(line[COUNT])];
     if (form == SLIP) {
         const uint32_t *slip = line + CELL + 2 * draw(line[SALES]);
-        while (at < n && tokens[at] != slip[0])
-            at++;
+        size_t at = place_in(tokens, n, slip[0]);
         if (slip[1] == 0 || at + slip[1] > n)
             return;
         dead = tokens[at + draw(slip[1])];

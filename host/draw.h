@@ -29,6 +29,9 @@ void draw_sales(uint8_t *tape, size_t records);
    one too many, the next for just what is left, and the last for nothing of nothing. */
 void draw_stocks(uint8_t *tape, size_t records);
 
+/* A token's place in a list of n, or n. */
+size_t place_in(const uint32_t *tokens, size_t n, uint32_t token);
+
 /* Any entry: mostly one that is well formed, or nearly. */
 struct entry draw_entry(void);
 

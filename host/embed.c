@@ -1,5 +1,6 @@
 /* A day with the book: loads a token list and a book, applies a tape, saves the book, and prints what was refused and the
-   balance of each bench that has joined. With a 15 it prints which token is dead, counted from 0 in the line's tokens.
+   balance of each bench that has joined. With a 15 it prints which token is dead, counted from 0 in the line's tokens, and
+   where dead tokens were dropped how many.
 
        embed tokens.rec book.rec tape.rec
        embed book.rec                          makes an empty book, if there is no file of that name */
@@ -69,6 +70,8 @@ static void tell(size_t steps)
             printf("step %zu: refused 15, token %d is dead\n", i, seconds[i]);
         else if (verdicts[i] != 0)
             printf("step %zu: refused %d\n", i, verdicts[i]);
+        else if (seconds[i] != 0)
+            printf("step %zu: granted, %d dropped\n", i, seconds[i]);
     for (int bench = 0; bench < GS_BENCHES; bench++)
         if (book[GS_WORD(GS_BENCH_VIEW(bench), GS_IN_USE)] == 1)
             printf("bench %d: %u\n", bench, book[GS_WORD(GS_BENCH_VIEW(bench), GS_AMOUNT)]);

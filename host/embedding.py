@@ -29,9 +29,10 @@ clear bench 1 customer 3
 bench 1 authenticates
 desk authenticates bench 1
 clear bench 1 customer 3
+clear what lives bench 1 customer 3
 """
-BALANCES = "bench 1: 2\nbench 6: 0\n"
-TOLD = "step 6: refused 11\nstep 14: refused 17\nstep 17: refused 15, token 2 is dead\n" + BALANCES
+BALANCES = "bench 1: 4\nbench 6: 0\n"
+TOLD = "step 6: refused 11\nstep 14: refused 17\nstep 17: refused 15, token 2 is dead\nstep 18: granted, 1 dropped\n" + BALANCES
 
 
 # ---- what this machine has ----

@@ -59,12 +59,43 @@ FAULTS = [
     ),
     (
         "a slip judged by its first token when its line is cleared",
-        "size_t n = waiting(d, tokens), held = d->customer_view[COUNT];\n",
-        """size_t n = waiting(d, tokens), held = d->customer_view[COUNT];
+        "size_t n = waiting(d, tokens);\n",
+        """size_t n = waiting(d, tokens);
     for (size_t slip = 0, i = 0; d->form == SLIP && slip < d->line[SALES]; slip++)
         for (size_t left = d->line[CELL + 2 * slip + 1]; left > 0; left--)
             tokens[i++] = d->line[CELL + 2 * slip];
 """,
+    ),
+    (
+        "a slip paid for by its first token when what lives is cleared",
+        """    for (size_t i = 0; i < n; i++)
+        if (lives(d, tokens[i]))
+            paid++;
+""",
+        """    for (size_t i = 0, first = 0, slip = 0, ends = 0; i < n; i++) {
+        if (d->form == PLAIN || i == ends)
+            first = i;
+        if (d->form == SLIP && i == ends)
+            ends += d->line[CELL + 2 * slip++ + 1];
+        if (lives(d, tokens[first]))
+            paid++;
+    }
+""",
+    ),
+    (
+        "the dead paid for: what is dropped is credited too",
+        "+= (uint32_t)paid;",
+        "+= (uint32_t)n;",
+    ),
+    (
+        "the dead kept: a line isn't emptied if some of it was dropped",
+        "    for (size_t i = COUNT; i < RECORD; i++)\n        d->line[i] = 0;\n",
+        "    for (size_t i = COUNT; i < RECORD && paid == n; i++)\n        d->line[i] = 0;\n",
+    ),
+    (
+        "another second number: how many tokens of a line were paid for, if some were dropped",
+        "    return n - paid;\n",
+        "    return paid < n ? paid : 0;\n",
     ),
     (
         "a place counted in slips: the slip book's second number isn't in opened tokens",
@@ -97,8 +128,8 @@ FAULTS = [
     ),
     (
         "a refused step that writes: a line with a dead token is cleared",
-        "    if (verdict == 0)\n        do_step",
-        "    if (verdict == 0 || verdict == 15)\n        do_step",
+        "second = do_step(&d, e.kind, e.amount);",
+        "second = do_step(&d, e.kind, e.amount);\n    else if (verdict == 15)\n        clear(&d);",
     ),
     (
         "a value lost: a carnet refreshed from the carnet and not from the desk's view",
@@ -117,8 +148,8 @@ FAULTS = [
     ),
     (
         "another bench paid: a clear credits the next one",
-        "d->bench_view[AMOUNT] += (uint32_t)n;",
-        "d->bench_view[RECORD + AMOUNT] += (uint32_t)n;",
+        "d->bench_view[AMOUNT] += (uint32_t)paid;",
+        "d->bench_view[RECORD + AMOUNT] += (uint32_t)paid;",
     ),
     (
         "the old clearing fault: one cell past an even number of tokens is read",
@@ -167,8 +198,8 @@ FAULTS = [
     ),
     (
         "a handshake used twice: the clear of an empty line leaves it",
-        "(uint32_t)n;\n    d->bench_view[HANDSHAKE] = NONE;\n",
-        "(uint32_t)n;\n    if (n > 0)\n        d->bench_view[HANDSHAKE] = NONE;\n",
+        "(uint32_t)paid;\n    d->bench_view[HANDSHAKE] = NONE;\n",
+        "(uint32_t)paid;\n    if (n > 0)\n        d->bench_view[HANDSHAKE] = NONE;\n",
     ),
     (
         "a step let pass: the desk authenticates a second time",
@@ -183,7 +214,7 @@ FAULTS = [
     (
         "an order of verdicts: 15 before 17",
         "handshake != BOTH_HAVE)",
-        "handshake != BOTH_HAVE && first_dead(d) == CELLS)",
+        "handshake != BOTH_HAVE && (kind != CLEAR || first_dead(d) == CELLS))",
     ),
     (
         "a limit of soundness: a handshake of 3",

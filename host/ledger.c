@@ -15,7 +15,8 @@ enum { NONE, BENCH_HAS, BOTH_HAVE };
 /* The first record of each sort. */
 enum { DESK = 0, CARNETS = 1, CUSTOMER_VIEWS = 17, BENCH_VIEWS = 33, TILLS = 41, LINES = 49 };
 
-enum { JOIN_CUSTOMER = 1, JOIN_BENCH, OPEN, UPDATE, STOCK, SELL, BENCH_AUTHENTICATES, DESK_AUTHENTICATES, CLEAR, TOP_UP };
+enum { JOIN_CUSTOMER = 1, JOIN_BENCH, OPEN, UPDATE, STOCK, SELL, BENCH_AUTHENTICATES, DESK_AUTHENTICATES, CLEAR, TOP_UP,
+       CLEAR_LIVING };
 
 enum form { PLAIN, SLIP };
 
@@ -260,6 +261,12 @@ struct entry {
     uint32_t amount;
 };
 
+/* Either kind of clear. */
+static int clears(uint8_t kind)
+{
+    return kind == CLEAR || kind == CLEAR_LIVING;
+}
+
 static int uses_bench(uint8_t kind)
 {
     return kind != JOIN_CUSTOMER && kind != UPDATE && kind != TOP_UP;
@@ -267,7 +274,7 @@ static int uses_bench(uint8_t kind)
 
 static int uses_customer(uint8_t kind)
 {
-    return kind == JOIN_CUSTOMER || kind == OPEN || kind == UPDATE || kind == SELL || kind == CLEAR || kind == TOP_UP;
+    return kind == JOIN_CUSTOMER || kind == OPEN || kind == UPDATE || kind == SELL || clears(kind) || kind == TOP_UP;
 }
 
 static int uses_amount(uint8_t kind)
@@ -278,7 +285,7 @@ static int uses_amount(uint8_t kind)
 /* 2, 3 or 0. */
 static uint8_t judge_entry(struct entry e)
 {
-    if (e.kind < JOIN_CUSTOMER || e.kind > TOP_UP || e.zero != 0)
+    if (e.kind < JOIN_CUSTOMER || e.kind > CLEAR_LIVING || e.zero != 0)
         return 2;
     if ((!uses_bench(e.kind) && e.bench) || (!uses_customer(e.kind) && e.customer) || (!uses_amount(e.kind) && e.amount))
         return 2;
@@ -331,14 +338,21 @@ static size_t waiting(const struct desk *d, uint32_t *tokens)
     return d->line[COUNT];
 }
 
-/* The place among the tokens that wait in the line, counted from 0, of the first that isn't in the desk's view of the
-   customer; CELLS, which is no place, if all are. */
+/* Whether a token is in the desk's view of the customer. */
+static int lives(const struct desk *d, uint32_t token)
+{
+    size_t held = d->customer_view[COUNT];
+    return place_of(d->customer_view + CELL, held, token) < held;
+}
+
+/* The place among the tokens that wait in the line, counted from 0, of the first that is dead; CELLS, which is no place, if
+   all live. */
 static size_t first_dead(const struct desk *d)
 {
     uint32_t tokens[CELLS];
-    size_t n = waiting(d, tokens), held = d->customer_view[COUNT];
+    size_t n = waiting(d, tokens);
     for (size_t i = 0; i < n; i++)
-        if (place_of(d->customer_view + CELL, held, tokens[i]) == held)
+        if (!lives(d, tokens[i]))
             return i;
     return CELLS;
 }
@@ -356,9 +370,9 @@ static uint8_t judge_step(const struct desk *d, uint8_t kind, uint64_t n)
         return 4;
     if (kind >= OPEN && ((uses_customer(kind) && !d->carnet[IN_USE]) || (uses_bench(kind) && !d->till[IN_USE])))
         return 5;
-    if ((kind == SELL || kind == CLEAR) && !d->line[IN_USE])
+    if ((kind == SELL || clears(kind)) && !d->line[IN_USE])
         return 6;
-    if ((kind == DESK_AUTHENTICATES && handshake != BENCH_HAS) || (kind == CLEAR && handshake != BOTH_HAVE))
+    if ((kind == DESK_AUTHENTICATES && handshake != BENCH_HAS) || (clears(kind) && handshake != BOTH_HAVE))
         return 17;
     if ((kind == JOIN_CUSTOMER && n > MILLION) || (kind == STOCK && n > 32)
         || (kind == TOP_UP && !money_fits(d->book, n)))
@@ -463,18 +477,25 @@ static void strike(uint32_t *record, const uint32_t *tokens, size_t n)
     record[COUNT] = (uint32_t)kept;
 }
 
-static void clear(const struct desk *d)
+/* Each token of the line that lives is paid for, and the dead ones are dropped; answers how many. A clear that was granted
+   finds none dead. */
+static size_t clear(const struct desk *d)
 {
     uint32_t tokens[CELLS];
-    size_t n = waiting(d, tokens);
+    size_t n = waiting(d, tokens), paid = 0;
+    for (size_t i = 0; i < n; i++)
+        if (lives(d, tokens[i]))
+            paid++;
     strike(d->customer_view, tokens, n);
-    d->bench_view[AMOUNT] += (uint32_t)n;
+    d->bench_view[AMOUNT] += (uint32_t)paid;
     d->bench_view[HANDSHAKE] = NONE;
     for (size_t i = COUNT; i < RECORD; i++)
         d->line[i] = 0;
+    return n - paid;
 }
 
-static void do_step(const struct desk *d, uint8_t kind, uint32_t n)
+/* Answers how many tokens were dropped. */
+static size_t do_step(const struct desk *d, uint8_t kind, uint32_t n)
 {
     switch (kind) {
     case JOIN_CUSTOMER:
@@ -504,16 +525,18 @@ static void do_step(const struct desk *d, uint8_t kind, uint32_t n)
     case DESK_AUTHENTICATES:
         authenticate(d, BOTH_HAVE);
         break;
-    case CLEAR:
-        clear(d);
-        break;
     case TOP_UP:
         d->customer_view[AMOUNT] += n;
         break;
+    case CLEAR:
+    case CLEAR_LIVING:
+        return clear(d);
     }
+    return 0;
 }
 
-/* Answers the verdict in the low byte and the second number in the high one, which is 0 but with a 15. */
+/* Answers the verdict in the low byte and the second number in the high one: with a 15 the dead token's place, with a 0 how
+   many were dropped. */
 static uint16_t step(enum form form, const uint32_t *tokens, size_t n, uint32_t *book, struct entry e)
 {
     uint8_t verdict = judge_entry(e);
@@ -523,7 +546,7 @@ static uint16_t step(enum form form, const uint32_t *tokens, size_t n, uint32_t 
     verdict = judge_step(&d, e.kind, e.amount);
     size_t second = verdict == 15 ? first_dead(&d) : 0;
     if (verdict == 0)
-        do_step(&d, e.kind, e.amount);
+        second = do_step(&d, e.kind, e.amount);
     return (uint16_t)(second << 8 | verdict);
 }
 

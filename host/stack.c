@@ -27,7 +27,8 @@ static const struct {
     {"sales", 1, {6}},
     {"authentications", 2, {7, 8}},
     {"clears", 1, {9}},
-    {"clears of 16 sales", 1, {LONG_LINES}},
+    {"clears of what lives", 1, {11}},
+    {"clears of 16 sales", 2, {LONG_LINES, LONG_LIVING}},
     {"top ups", 1, {10}},
     {"no step", 2, {FULL, DAY}},
 };

@@ -113,35 +113,38 @@ static size_t cleared(size_t bench)
     return 2 * bench + bench % 2;
 }
 
-/* One clear for each bench, as each uses up a handshake. */
-static void settle_to_clear(enum form form)
+/* One clear of this kind for each bench, as each uses up a handshake. */
+static void settle_to_clear(size_t kind, enum form form)
 {
     for (size_t bench = 0; bench < GS_BENCHES; bench++)
         add_handshake(bench);
     settle(form);
     for (size_t bench = 0; bench < GS_BENCHES; bench++)
-        add(9, bench, cleared(bench), 0);
+        add(kind, bench, cleared(bench), 0);
 }
 
 /* Clears. The line has two sales of 2, and the customer's lines at the benches before this one are cleared: the desk's view of
-   the customer has 32, 28, 24 .. 4 tokens. */
-static void lay_clears(enum form form)
+   the customer has 32, 28, 24 .. 4 tokens. Where what lives is cleared the older sale is dead, and the view has 32, 30 .. 18. */
+static void lay_clears(size_t kind, enum form form)
 {
-    list(1200);
+    list(kind == 9 ? 1200 : 1280);
     everybody_joins();
     each(4, 1, 32);
-    each(6, 2, 2);
+    each(6, 1, 2);
+    if (kind != 9)
+        each(4, 1, 0);
+    each(6, 1, 2);
     each(5, 1, 32);
     for (size_t last = 0; last < GS_BENCHES; last++)
         for (size_t bench = 0; bench < last; bench++) {
             add_handshake(bench);
-            add(9, bench, cleared(last), 0);
+            add(kind, bench, cleared(last), 0);
         }
-    settle_to_clear(form);
+    settle_to_clear(kind, form);
 }
 
-/* Clears again, each of a line with 16 sales of 2: no line has more. */
-static void lay_long_lines(enum form form)
+/* Clears again, each of a line with 16 sales of 2, all of them live: no line has more. */
+static void lay_long_lines(size_t kind, enum form form)
 {
     list(1200);
     everybody_joins();
@@ -150,7 +153,7 @@ static void lay_long_lines(enum form form)
         for (size_t sale = 0; sale < 16; sale++)
             add(6, bench, cleared(bench), 2);
     each(5, 1, 32);
-    settle_to_clear(form);
+    settle_to_clear(kind, form);
 }
 
 /* 24 rounds. A round is a stock of every bench with the 8 tokens that it needs, and for every customer an update, sales of
@@ -227,7 +230,8 @@ void lay(size_t what, enum form form)
         lay_desks(form);
         break;
     case 9:
-        lay_clears(form);
+    case 11:
+        lay_clears(what, form);
         break;
     case FULL:
         lay_full(form);
@@ -236,7 +240,10 @@ void lay(size_t what, enum form form)
         lay_day(form);
         break;
     case LONG_LINES:
-        lay_long_lines(form);
+        lay_long_lines(9, form);
+        break;
+    case LONG_LIVING:
+        lay_long_lines(11, form);
         break;
     default:
         lay_kind(what, form);

@@ -13,9 +13,9 @@ extern struct laid {
     uint8_t tape[8 * MOST_RECORDS], verdicts[MOST_RECORDS], seconds[MOST_RECORDS];
 } LAID;
 
-/* Lays a tape of one kind of step, by its number 1 to 10, or one of these: a tape of many kinds, a full book and a day's, both without a
-   record on the tape, or clears of lines with as many sales as there can be. */
-enum { MIXED = 0, FULL = 11, DAY, LONG_LINES };
+/* Lays a tape of one kind of step, by its number 1 to 11, or one of these: a tape of many kinds, a full book and a day's, both without a
+   record on the tape, or clears, of either kind, of lines with as many sales as there can be. */
+enum { MIXED = 0, FULL = 12, DAY, LONG_LINES, LONG_LIVING };
 void lay(size_t what, enum form form);
 
 /* A run over the tape's first records, on a book over the list. Inline, so that a counter of instructions meets no call more. */

@@ -61,7 +61,8 @@ uint8_t gs_slip_sound(const uint32_t *tokens, size_t n, const uint32_t *book, si
    0 if it was granted and the book has changed accordingly, 1 if the book isn't sound over the list, else one of 2 to 15
    and 17. Where several fit it is the one that stands first in the table of docs/RULES.md, section 5, where 17, handshake
    missing, stands between 6 and 7. The high byte is the second number: with a 15 the place, counted from 0 in the line's
-   tokens, of the first that isn't in the desk's view of the customer, and 0 with every other verdict. */
+   tokens, of the first that isn't in the desk's view of the customer; where kind 11, clear what lives, was granted, how many
+   of them weren't there and were dropped; and 0 with everything else. */
 uint16_t gs_step(const uint32_t *tokens, size_t n, uint32_t *book, size_t words, uint8_t kind, uint8_t bench,
                  uint8_t customer, uint8_t zero, uint32_t amount);
 

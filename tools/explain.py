@@ -16,13 +16,13 @@ def load_tape():
 
 
 tape = load_tape()
-UPDATE, SELL, CLEAR = 4, 6, 9  # the kinds that change what waits in a line
+UPDATE, SELL, CLEAR, CLEAR_LIVING = 4, 6, 9, 11  # the kinds that change what waits in a line
 
 # What a number says, and what to do, word for word as README.md has it.
 VERDICTS = {
     1: ("there is no good token list, so that no step was done",
         "Take the last good copy of tokens.rec, and walk again."),
-    2: ("this is no record of the ten kinds, or a field that the kind doesn't use isn't zero",
+    2: ("this is no record of the eleven kinds, or a field that the kind doesn't use isn't zero",
         "Whoever wrote the tape has a fault; tools/tape read shows such a step as a record."),
     3: ("there is no such bench (0 to 7) or customer (0 to 15)",
         "Correct the number."),
@@ -32,7 +32,7 @@ VERDICTS = {
         "Let it join, then repeat the step."),
     6: ("the bench has no line for this customer",
         "Open it, then repeat the step."),
-    17: ("the handshake is missing: a clear comes after the bench's "
+    17: ("the handshake is missing: a clear of either kind comes after the bench's "
          "authentication and then the desk's, and the desk's after the bench's",
          "Let the bench authenticate, then the desk, and then clear, before a stock of the bench, another clear of it or another authentication by it."),
     7: ("a budget above 1,000,000 on joining, a stock above 32, or a top up that would bring the hall's money above "
@@ -54,7 +54,7 @@ VERDICTS = {
     14: ("till and desk don't have the same token in front",
          "If it's the bench that the desk knows, stock it: both sides get the same tokens."),
     15: ("a token of the line is dead, since the customer has updated after the sale",
-         "The line can't be paid as it stands; bench and customer have to settle it between them."
+         "Clear what lives: the line's live tokens are paid for, and the dead ones dropped, for bench and customer to settle between them."
          " The second number, which a program gets with it, is the place of the first dead token in the line, 0 for the newest: all before it live."),
 }
 
@@ -87,8 +87,9 @@ def listing_of(records, is_cut, text):
 
 
 def lines_after(records, verdicts):
-    """The live tokens and the dead ones that wait in each line, by bench and customer; and what each bench was paid."""
-    waiting, paid = collections.defaultdict(lambda: (0, 0)), collections.Counter()
+    """The live tokens and the dead ones that wait in each line, by bench and customer; what each bench was paid; and how many
+    dead ones were dropped from each line."""
+    waiting, paid, dropped = collections.defaultdict(lambda: (0, 0)), collections.Counter(), collections.Counter()
     for record, verdict in zip(records, verdicts):
         kind, bench, customer, _, amount = tape.RECORD.unpack(record)
         if verdict:
@@ -98,10 +99,11 @@ def lines_after(records, verdicts):
             waiting[bench, customer] = live + amount, dead
         elif kind == UPDATE:  # of any amount: all that the customer has sold leaves the desk's view
             waiting.update({line: (0, sum(held)) for line, held in waiting.items() if line[1] == customer})
-        elif kind == CLEAR:
+        elif kind in (CLEAR, CLEAR_LIVING):
             waiting[bench, customer] = 0, 0
             paid[bench] += live
-    return {line: held for line, held in waiting.items() if any(held)}, paid
+            dropped[bench, customer] += dead
+    return {line: held for line, held in waiting.items() if any(held)}, paid, +dropped  # which leaves out zeros
 
 
 def check_sums(listing, waiting, paid):
@@ -143,15 +145,22 @@ def customer_line(number, budget, view, carnet):
     return f"customer {number}: {budget:,} left of the budget; {count(carnet, 'token')} in the carnet; {sold}"
 
 
-def bench_lines(number, owed, till, waiting, lines):
-    """A bench's account, and below it what is dead in its lines."""
+def bench_lines(number, owed, till, waiting, lines, dropped):
+    """A bench's account, and below it what is dead in its lines, and what was dropped."""
     dead = sum(held[1] for held in lines.values())
     sold = f"{count(waiting, 'token')} sold and waiting to be cleared" + (f", {dead} of them dead" if dead else "")
     yield f"bench {number}: owed {owed:,}; {count(till, 'authentication token')} in the till; {sold}"
     for customer, (live, dead) in sorted(lines.items()):
         if dead:
-            alive = f"; {count(live, 'live token')} can't be cleared either, being in the same line" if live else ""
+            alive = f"; to clear what lives pays for {count(live, 'live token')} in the same line" if live else ""
             yield f"  from customer {customer}: {count(dead, 'token')} dead, never to be paid{alive}"
+    for customer, tokens in sorted(dropped.items()):
+        yield f"  from customer {customer}: {count(tokens, 'dead token')} dropped, unpaid"
+
+
+def of_bench(number, lines):
+    """What is said of a bench's lines, by customer."""
+    return {customer: said for (bench, customer), said in lines.items() if bench == number}
 
 
 def heading(listing):
@@ -173,12 +182,12 @@ def explained(octets, text):
     whole = len(octets) - len(octets) % size
     records = [octets[at:at + size] for at in range(0, whole, size)]
     listing = listing_of(records, whole < len(octets), text)
-    waiting, paid = lines_after(records, listing.verdicts)
+    waiting, paid, dropped = lines_after(records, listing.verdicts)
     check_sums(listing, waiting, paid)
     customers = [customer_line(number, *account) for number, account in listing.customers.items()]
     benches = []
     for number, account in listing.benches.items():
-        benches += bench_lines(number, *account, {line[1]: held for line, held in waiting.items() if line[0] == number})
+        benches += bench_lines(number, *account, of_bench(number, waiting), of_bench(number, dropped))
     accounts = ["", *customers, *benches] if customers or benches else []
     return "".join(f"{line}\n" for line in [*heading(listing), *refusals(records, listing.verdicts), *accounts])
 

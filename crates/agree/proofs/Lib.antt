@@ -2,6 +2,8 @@ pub mod Sold
 pub mod SameVerdict
 pub mod OpenChanges
 pub mod SameStep
+pub mod WholeSlips
+pub mod DroppedSlips
 pub mod SameRun
 pub mod Agree
 pub mod Agreement

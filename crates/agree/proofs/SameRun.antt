@@ -11,7 +11,7 @@ use Rattle.rules.specs.Slips.{openBook, slipSound, slip}
 use Rattle.rules.specs.Steps.{changes, effect}
 use Rattle.rules.specs.Verdicts.{Stepped, verdict, step, Ran, onward, steps}
 use Rattle.rules.proofs.Tests.{same}
-use Rattle.rules.proofs.Stepping.{step-granted, step-refused, step-verdict}
+use Rattle.rules.proofs.Stepping.{stepped-alike, step-granted, step-refused, step-verdict}
 use Rattle.rules.proofs.Named.{Each}
 use Rattle.laws.proofs.Changes.{Fit}
 use Rattle.laws.proofs.ReflectSlips.{SlipSound, slip-sound-facts, slip-sound-test}
@@ -62,18 +62,12 @@ abbrev pub openRan : Hall → List ℕ → Ran → Ran
 openRan h ts r =
     record { answer = r .answer; verdicts = r .verdicts; seconds = r .seconds; book = openBook h ts (r .book) }
 
-alike : {s s′ : Stepped} → s .number ≡ s′ .number → s .second ≡ s′ .second → s .cells ≡ s′ .cells → s ≡ s′
-alike {s} {s′} p q r =
-    ap (λ (n : ℕ). record { number = n; second = s .second; cells = s .cells }) p
-    ∙ ap (λ (n : ℕ). record { number = s′ .number; second = n; cells = s .cells }) q
-    ∙ ap (λ (x : List ℕ). record { number = s′ .number; second = s′ .second; cells = x }) r
-
 pub same-step : (h : Hall) (ts b : List ℕ) (e : Entry) → slipSound h ts b ≡ true
     → openStep h ts (step slip h ts b e) ≡ step plain h ts (openBook h ts b) e
 same-step h ts b e good =
     let numbers : step slip h ts b e .number ≡ step plain h ts (openBook h ts b) e .number =
     step-verdict slip h ts b e ∙ same-verdict h ts b e good ∙ sym (step-verdict plain h ts (openBook h ts b) e) in
-    alike numbers (same-second h ts b e good)
+    stepped-alike numbers (same-second h ts b e good)
     (⊎-elim
     (λ (z : step slip h ts b e .number ≡ 0).
     ap (openBook h ts) (step-granted slip h ts b e z)

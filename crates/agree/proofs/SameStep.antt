@@ -5,7 +5,7 @@ use native.Mathlib.Omega.{arith}
 use lib.ListN.{length-take}
 use Rattle.rules.specs.declared.Hall.{Hall}
 use Rattle.rules.specs.declared.Entry.{Entry}
-use Rattle.rules.specs.Lists.{ℕ, _+_, _-_, min, true, List, [], _++_, length, take, drop, every, occ, isIn, allDifferent}
+use Rattle.rules.specs.Lists.{ℕ, _+_, _-_, min, true, List, [], _∷_, _++_, length, take, drop, every, occ, isIn, allDifferent}
 use Rattle.rules.specs.Hall.{mostHeld, mostSales, Desk, Carnet, View, BenchView, Till, Line, number, records}
 use Rattle.rules.specs.Records.{words, inUse, amount, count, sales, held, filled, made, recordAt}
 use Rattle.rules.specs.Tape.{Sell, kindOf, usesBench, usesCustomer}
@@ -26,7 +26,7 @@ use Rattle.rules.proofs.Granted.{granted-good, bench-inside, customer-inside, u
 use Rattle.keeps.proofs.Fits.{Regular}
 use Rattle.laws.proofs.Runs.{run-test, made-run, from, run-fits, run-drop}
 use Rattle.laws.proofs.SlipLines.{open-filled}
-use Rattle.agree.proofs.Sold.{Sold, sold, carnet-part}
+use Rattle.agree.proofs.Sold.{Part, Sold, sold, carnet-part}
 use Rattle.agree.proofs.SameVerdict.{opened-book, word-amount, word-count, word-sales, dealt-small, line-tokens}
 use Rattle.agree.proofs.OpenChanges.{SlipFine}
 
@@ -145,7 +145,7 @@ module _ (h : Hall) (ts b : List ℕ) (e : Entry) (ok : SlipSound h ts b)
     full : length (held (theCarnet h b e)) ≡ count (theCarnet h b e)
     full = rw carnet-same at (full-at h ts (openBook h ts b) (opened-book h ts b ok) C (omega arith))
 
-    gone-long : length gone ≡ e .amount
+    pub gone-long : length gone ≡ e .amount
     gone-long = simp length-take (omega (arith, full))
 
     carnet-run : isRun ts (theCarnet h b e) ≡ true
@@ -154,14 +154,17 @@ module _ (h : Hall) (ts b : List ℕ) (e : Entry) (ok : SlipSound h ts b)
     carnet-known : every (λ t. isIn t (take (dealt b) ts)) (held (theCarnet h b e)) ≡ true
     carnet-known = rw (word-amount h ts b ok 0, carnet-same) at (known-at h ts (openBook h ts b) (opened-book h ts b ok) C (omega arith))
 
+    -- the tokens sold are what their slip stands for
+    pub sold-part : (t : ℕ) (g : List ℕ) → gone ≡ t ∷ g → Part ts (dealt b) t g
+    sold-part = carnet-part ts (different h ts b e ok) (dealt b) (theCarnet h b e) carnet-run full carnet-known (e .amount) enough
+
     pub sold-slip : Sold ts (dealt b) (soldLine h b e slip) (gone ++ slipTokens ts (theLine h b e))
     unfolding soldLine
     sold-slip =
         let r : List ℕ = theLine h b e in
         subst (λ (k : ℕ). Sold ts (dealt b) (filled 1 0 (count r + k) (sales r + min k 1) (slipOf gone ++ slipPairs r)) (gone ++ slipTokens ts r)) gone-long
         (sold ts (dealt b) r (slip-line-facts ts (dealt b) r (ok .lines L (omega arith) inside)) (block-long words L b (omega (arith, ok .long, inside))) gone
-        (omega (arith, gone-long)) (omega (arith, gone-long))
-        (carnet-part ts (different h ts b e ok) (dealt b) (theCarnet h b e) carnet-run full carnet-known (e .amount) enough))
+        (omega (arith, gone-long)) (omega (arith, gone-long)) sold-part)
 
     -- the new line opens to the plain book's
     sold-opens : openedLine ts (soldLine h b e slip) ≡ soldLine h (openBook h ts b) e plain
@@ -210,6 +213,12 @@ module _ (h : Hall) (ts b : List ℕ) (e : Entry) (v : verdict slip h ts b e ≡
   pub slip-sold : e .kind ≡ kindOf Sell → Sold ts (dealt b) (soldLine h b e slip) (take (e .amount) (held (theCarnet h b e)) ++ slipTokens ts (theLine h b e))
   slip-sold q = let s = sale q in sold-slip h ts b e ok (s .0) (s .1) (sell-enough slip h ts b e v q) (sell-room slip h ts b e v q) (s .2)
 
+  pub slip-part : e .kind ≡ kindOf Sell → (t : ℕ) (g : List ℕ) → take (e .amount) (held (theCarnet h b e)) ≡ t ∷ g → Part ts (dealt b) t g
+  slip-part q = let s = sale q in sold-part h ts b e ok (s .0) (s .1) (sell-enough slip h ts b e v q) (sell-room slip h ts b e v q) (s .2)
+
+  pub slip-gone : e .kind ≡ kindOf Sell → length (take (e .amount) (held (theCarnet h b e))) ≡ e .amount
+  slip-gone q = let s = sale q in gone-long h ts b e ok (s .0) (s .1) (sell-enough slip h ts b e v q) (sell-room slip h ts b e v q) (s .2)
+
   pub slip-fine : (d : ℕ) × SlipFine h ts b d (changes h b e slip ts (e .kind)) (changes h (openBook h ts b) e plain ts (e .kind))
   unfolding changes joining occ
   slip-fine =
@@ -225,6 +234,7 @@ module _ (h : Hall) (ts b : List ℕ) (e : Entry) (v : verdict slip h ts b e ≡
         desk-authenticates = λ q. (_, authenticates h ts b e ok 2 (bench 8 q refl));
         clear = λ q. (_, clears h ts b e ok (bench 9 q refl) (customer 9 q refl));
         top-up = λ q. (_, tops-up h ts b e ok (customer 10 q refl));
+        clear-living = λ q. (_, clears h ts b e ok (bench 11 q refl) (customer 11 q refl));
       }
       (e .kind) (granted-kind slip h ts b e v) refl
 

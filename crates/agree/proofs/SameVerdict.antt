@@ -10,20 +10,21 @@ use Rattle.rules.specs.Lists.{ℕ, _+_, _*_, Bool, true, false, not, _&&_, _||_
 use Rattle.rules.specs.Hall.{mostHeld, mostBudget, Carnet, View, BenchView, Till, Line, number, records, views, customerViews}
 use Rattle.rules.specs.Answers.{Rule, _⇐_, first}
 use Rattle.rules.specs.Records.{inUse, amount, count, sales, handshake, cells, held, recordAt}
-use Rattle.rules.specs.Tape.{BenchAuthenticates, DeskAuthenticates, Clear, kindOf, is, usesBench, usesCustomer, wellFormed, inHall, entryRules}
+use Rattle.rules.specs.Tape.{BenchAuthenticates, DeskAuthenticates, Clear, ClearLiving, kindOf, is, clears, usesBench, wellFormed, inHall, entryRules}
 use Rattle.rules.specs.Sound.{total, mostTotal}
 use Rattle.rules.specs.Form.{plain}
 use Rattle.rules.specs.Slips.{slipTokens, openBook, slipSound, slip}
-use Rattle.rules.specs.Steps.{dealt, theBenchView, theTill}
-use Rattle.rules.specs.Verdicts.{authenticates, waiting, deadAt, table, verdict, step}
+use Rattle.rules.specs.Steps.{dealt, theView, theBenchView, theTill, waiting}
+use Rattle.rules.specs.Verdicts.{authenticates, deadAt, dropped, table, verdict, second, step}
 use Rattle.laws.proofs.Reflect.{Book, sound-facts}
 use Rattle.laws.proofs.Books.{facts-at, dealt-few}
 use Rattle.laws.proofs.Places.{inside-below}
 use Rattle.laws.proofs.Opened.{open-same, open-line, open-word, opened-use, opened-amount, opened-count, opened-sales, opened-handshake}
 use Rattle.laws.proofs.ReflectSlips.{SlipSound, slip-sound-facts, slip-line-facts}
-use Rattle.rules.proofs.Tests.{same}
-use Rattle.rules.proofs.Granted.{inside-hall-bench, inside-hall-customer}
-use Rattle.rules.proofs.Dead.{second-none, second-dead, step-second, dead-clear, dead-placed}
+use Rattle.rules.proofs.Tests.{same, and-left, and-right}
+use Rattle.rules.proofs.ByKind.{clears-bench, clears-customer}
+use Rattle.rules.proofs.Granted.{inside-hall-bench, inside-hall-customer, placed}
+use Rattle.rules.proofs.Dead.{drops, second-none, second-dead, second-drops, step-second, dead-clear, dead-placed}
 use Rattle.laws.proofs.SlipLines.{open-held}
 
 -- ---- tables that answer alike
@@ -100,29 +101,36 @@ module _ (h : Hall) (ts b : List ℕ) (e : Entry) (good : slipSound h ts b ≡ t
       let m : e .bench < h .benches = inside-hall-bench h e p u in
       rw (open-same h ts b (ok .long) (number h (Till (e .bench))) (omega arith), open-same h ts b (ok .long) (number h (BenchView (e .bench))) (omega arith)))
 
-  -- what a clear looks at: the tokens that the line stands for, and the first of them that the view lacks
-  module _ (p : inHall h e ≡ true) (k : e .kind ≡ kindOf Clear) where
-    same-waiting : waiting plain h ts (openBook h ts b) e ≡ waiting slip h ts b e
-    unfolding occ
+  -- what a clear of either kind looks at: the tokens that the line stands for, the first of them that the view lacks, and how many
+  module _ (p : inHall h e ≡ true) (k : clears (e .kind) ≡ true) where
+    its-bench : e .bench < h .benches
+    its-bench = inside-hall-bench h e p (clears-bench (e .kind) k)
+
+    its-customer : e .customer < h .customers
+    its-customer = inside-hall-customer h e p (clears-customer (e .kind) k)
+
+    same-view : theView h (openBook h ts b) e ≡ theView h b e
+    same-view = let c : e .customer < h .customers = its-customer in open-same h ts b (ok .long) (number h (View (e .customer))) (omega arith)
+
+    same-waiting : waiting h (openBook h ts b) e plain ts ≡ waiting h b e slip ts
     same-waiting =
-        let m : e .bench < h .benches = inside-hall-bench h e p (ap usesBench k) in
-        let c : e .customer < h .customers = inside-hall-customer h e p (ap usesCustomer k) in
-        line-tokens h ts b ok (number h (Line (e .bench) (e .customer))) (omega arith) (inside-below h (Line (e .bench) (e .customer)) (m, c))
+        line-tokens h ts b ok (number h (Line (e .bench) (e .customer))) (omega arith)
+        (inside-below h (Line (e .bench) (e .customer)) (its-bench, its-customer))
 
     same-dead : deadAt plain h ts (openBook h ts b) e ≡ deadAt slip h ts b e
-    unfolding occ
-    same-dead =
-        let c : e .customer < h .customers = inside-hall-customer h e p (ap usesCustomer k) in
-        rw (open-same h ts b (ok .long) (number h (View (e .customer))) (omega arith), same-waiting)
+    same-dead = rw (same-view, same-waiting)
+
+    same-dropped : dropped plain h ts (openBook h ts b) e ≡ dropped slip h ts b e
+    same-dropped = rw (same-view, same-waiting)
 
   same-clear : inHall h e ≡ true
-      → is e Clear && ltb (deadAt plain h ts (openBook h ts b) e) (length (waiting plain h ts (openBook h ts b) e))
-      ≡ is e Clear && ltb (deadAt slip h ts b e) (length (waiting slip h ts b e))
+      → is e Clear && ltb (deadAt plain h ts (openBook h ts b) e) (length (waiting h (openBook h ts b) e plain ts))
+      ≡ is e Clear && ltb (deadAt slip h ts b e) (length (waiting h b e slip ts))
   same-clear p =
       under (is e Clear) _ _ (λ q.
-      let k : e .kind ≡ kindOf Clear = eqb-true _ _ q in
+      let k : clears (e .kind) ≡ true = ap clears (eqb-true (e .kind) (kindOf Clear) q) in
       ap (λ (x : List ℕ). ltb (deadAt plain h ts (openBook h ts b) e) (length x)) (same-waiting p k)
-      ∙ ap (λ (n : ℕ). ltb n (length (waiting slip h ts b e))) (same-dead p k))
+      ∙ ap (λ (n : ℕ). ltb n (length (waiting h b e slip ts))) (same-dead p k))
 
   same-later : inHall h e ≡ true → first (drop 3 (table slip h ts b e)) ≡ first (drop 3 (table plain h ts (openBook h ts b) e))
   unfolding table entryRules
@@ -160,12 +168,23 @@ module _ (h : Hall) (ts b : List ℕ) (e : Entry) (good : slipSound h ts b ≡ t
   same-second =
       let o : List ℕ = openBook h ts b in
       let v : ℕ = verdict slip h ts b e in
+      let v′ : ℕ = verdict plain h ts o e in
       ⊎-elim
       (λ (z : verdict slip h ts b e ≡ 15).
       step-second slip h ts b e ∙ second-dead slip h ts b e v z
-      ∙ sym (same-dead (dead-placed slip h ts b e z) (dead-clear slip h ts b e z))
-      ∙ sym (second-dead plain h ts o e (verdict plain h ts o e) (sym same-verdict ∙ z)) ∙ sym (step-second plain h ts o e))
-      (λ (z : verdict slip h ts b e ≡ 15 → ⊥).
-      step-second slip h ts b e ∙ second-none slip h ts b e v z
-      ∙ sym (second-none plain h ts o e (verdict plain h ts o e) (λ q. z (same-verdict ∙ q))) ∙ sym (step-second plain h ts o e))
+      ∙ sym (same-dead (dead-placed slip h ts b e z) (ap clears (dead-clear slip h ts b e z)))
+      ∙ sym (second-dead plain h ts o e v′ (sym same-verdict ∙ z)) ∙ sym (step-second plain h ts o e))
+      (λ (z : verdict slip h ts b e ≡ 15 → ⊥). step-second slip h ts b e ∙ go z (drops slip h ts b e v) refl ∙ sym (step-second plain h ts o e))
       (same v 15)
+    where
+      go : (verdict slip h ts b e ≡ 15 → ⊥) → (d : Bool) → drops slip h ts b e (verdict slip h ts b e) ≡ d
+          → second slip h ts b e (verdict slip h ts b e) ≡ second plain h ts (openBook h ts b) e (verdict plain h ts (openBook h ts b) e)
+      go z true d =
+          let v : verdict slip h ts b e ≡ 0 = eqb-true _ _ (and-left _ (is e ClearLiving) d) in
+          let k : clears (e .kind) ≡ true = ap clears (eqb-true (e .kind) (kindOf ClearLiving) (and-right (eqb (verdict slip h ts b e) 0) _ d)) in
+          second-drops slip h ts b e (verdict slip h ts b e) d
+          ∙ sym (same-dropped (placed slip h ts b e v) k)
+          ∙ sym (second-drops plain h ts (openBook h ts b) e (verdict plain h ts (openBook h ts b) e) (ap (λ (i : ℕ). drops slip h ts b e i) (sym same-verdict) ∙ d))
+      go z false d =
+          second-none slip h ts b e (verdict slip h ts b e) z d
+          ∙ sym (second-none plain h ts (openBook h ts b) e (verdict plain h ts (openBook h ts b) e) (λ q. z (same-verdict ∙ q)) (ap (λ (i : ℕ). drops slip h ts b e i) (sym same-verdict) ∙ d))

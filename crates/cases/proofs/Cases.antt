@@ -84,18 +84,27 @@ granted =
     ∷ 55 ∷ 32 ∷ 53 ∷ 32 ∷ 48 ∷ 10
     ∷ []
 
--- with both authentications a clear is refused for the dead token
+-- with both authentications a clear is refused for the dead token, and a clear of what lives, the handshake being still there, is
+-- granted: the bench is paid for the other token
 dead : Case
 unfolding grown granted
 dead =
     record {
-      tape = grown ++ (7 ∷ 1 ∷ 0 ∷ 0 ∷ 0 ∷ 0 ∷ 0 ∷ 0 ∷ 8 ∷ 1 ∷ 0 ∷ 0 ∷ 0 ∷ 0 ∷ 0 ∷ 0 ∷ 9 ∷ 1 ∷ 3 ∷ 0 ∷ 0 ∷ 0 ∷ 0 ∷ 0 ∷ []);
+      tape =
+          grown
+          ++ (7 ∷ 1 ∷ 0 ∷ 0 ∷ 0 ∷ 0 ∷ 0 ∷ 0
+          ∷ 8 ∷ 1 ∷ 0 ∷ 0 ∷ 0 ∷ 0 ∷ 0 ∷ 0
+          ∷ 9 ∷ 1 ∷ 3 ∷ 0 ∷ 0 ∷ 0 ∷ 0 ∷ 0
+          ∷ 11 ∷ 1 ∷ 3 ∷ 0 ∷ 0 ∷ 0 ∷ 0 ∷ 0
+          ∷ []);
       listing =
           granted
-          ++ (56 ∷ 32 ∷ 55 ∷ 32 ∷ 48 ∷ 10 ∷ 57 ∷ 32 ∷ 56 ∷ 32 ∷ 48 ∷ 10
+          ++ (56 ∷ 32 ∷ 55 ∷ 32 ∷ 48 ∷ 10
+          ∷ 57 ∷ 32 ∷ 56 ∷ 32 ∷ 48 ∷ 10
           ∷ 49 ∷ 48 ∷ 32 ∷ 57 ∷ 32 ∷ 49 ∷ 53 ∷ 10
-          ∷ 67 ∷ 32 ∷ 51 ∷ 32 ∷ 55 ∷ 32 ∷ 50 ∷ 32 ∷ 49 ∷ 10
-          ∷ 77 ∷ 32 ∷ 49 ∷ 32 ∷ 48 ∷ 32 ∷ 48 ∷ 32 ∷ 50 ∷ 10
+          ∷ 49 ∷ 49 ∷ 32 ∷ 49 ∷ 49 ∷ 32 ∷ 48 ∷ 10
+          ∷ 67 ∷ 32 ∷ 51 ∷ 32 ∷ 55 ∷ 32 ∷ 49 ∷ 32 ∷ 49 ∷ 10
+          ∷ 77 ∷ 32 ∷ 49 ∷ 32 ∷ 49 ∷ 32 ∷ 48 ∷ 32 ∷ 48 ∷ 10
           ∷ []);
     }
 

@@ -33,9 +33,9 @@ pub record Bench (b : List ℕ) (till view : ℕ) : Type 0 where
   pub till-neat : Neat (recordAt till b)
   pub view-neat : Neat (recordAt view b)
 
--- a line, behind the views of its customer and its bench, and a balance that the line's tokens may be added to
-pub record Account (b : List ℕ) (view bench line : ℕ) : Type 0 where
+-- a line, behind the views of its customer and its bench, and a balance that what is paid may be added to
+pub record Account (b : List ℕ) (view bench line paid : ℕ) : Type 0 where
   pub views-apart : view < bench
   pub line-apart : bench < line
   pub line-stands : words * line + words ≤ length b
-  pub fits : amount (recordAt bench b) + count (recordAt line b) < 4294967296
+  pub fits : amount (recordAt bench b) + paid < 4294967296

@@ -103,17 +103,16 @@ pub fn use_up(book: &mut [u32], till: usize, view: usize, s: u32)
     keep_rest(book, view, 1, 31, balance, s);
 }
 
-// A line is cleared: the customer's view loses the tokens that are marked, the bench is paid for each of the line's and its
-// handshake is used up, the line holds none.
-pub fn settle(book: &mut [u32], view: usize, bench: usize, line: usize, marks: u32)
-    requires { ⌜ Account (now book) view bench line ⌝ }
-    ensures { λ _. ⌜ now (book .exit) ≡ put line (made 0 0 []) (put bench (withHandshake 0 (withAmount (amount (recordAt bench (now (book .entry))) + count (recordAt line (now (book .entry)))) (recordAt bench (now (book .entry))))) (put view (made (amount (recordAt view (now (book .entry)))) 0 (unmarked marks (held (recordAt view (now (book .entry)))))) (now (book .entry)))) ⌝ }
+// A line is cleared: the customer's view loses the tokens that are marked, the bench is paid for each of them and its handshake is
+// used up, the line holds none.
+pub fn settle(book: &mut [u32], view: usize, bench: usize, line: usize, marks: u32, paid: u32)
+    requires { ⌜ Account (now book) view bench line paid ⌝ }
+    ensures { λ _. ⌜ now (book .exit) ≡ put line (made 0 0 []) (put bench (withHandshake 0 (withAmount (amount (recordAt bench (now (book .entry))) + paid) (recordAt bench (now (book .entry))))) (put view (made (amount (recordAt view (now (book .entry)))) 0 (unmarked marks (held (recordAt view (now (book .entry)))))) (now (book .entry)))) ⌝ }
 {
     let budget = book::word_of(book, view, 1);
     let balance = book::word_of(book, bench, 1);
-    let n = book::word_of(book, line, 2);
     strike(book, view, marks, budget, 0);
-    writing::set_word(book, bench, 1, balance + n);
+    writing::set_word(book, bench, 1, balance + paid);
     writing::set_word(book, bench, 3, 0);
     let none = [0u32; 0];
     writing::put_made(book, line, 0, 0, &none);

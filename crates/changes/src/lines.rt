@@ -21,31 +21,36 @@ use tokens::searching;
 
 // ---- a line's tokens, found in a view
 
-// One slip after the other, up to a dead token: each slip's tokens are a part of the list.
+// One slip after the other: each slip's tokens are a part of the list.
 fn find_slips(list: &[u32], left: usize, pairs: &[u32], view: &[u32]) -> Found
     requires { ⌜ (2 * left ≤ length (now pairs)) × (length (openSlips (now list) left (now pairs)) ≤ mostHeld) × (length (now view) ≤ mostHeld) ⌝ }
     ensures { λ r. ⌜ r ≡ found (now (view .entry)) (openSlips (now (list .entry)) left (now (pairs .entry))) 0 ⌝ }
 {
     let mut dead = 0;
+    let mut living = 0;
+    let mut seen = 0;
     let mut marks = 0;
     let mut i = 0;
     while i < left {
         let tokens = opening::slip_part(list, pairs[2 * i], pairs[2 * i + 1] as usize);
         let here = marking::find(view, tokens, marks);
-        dead += here.dead;
-        marks = here.marks;
-        if here.dead < tokens.len() {
-            break;
+        // all before it live
+        if dead == seen {
+            dead += here.dead;
         }
+        seen += tokens.len();
+        living += here.living;
+        marks = here.marks;
         i += 1;
     }
     Found {
         dead: dead,
+        living: living,
         marks: marks,
     }
 }
 
-// The first of a line's tokens that a view doesn't have, and the places of those before it.
+// Of a line's tokens: the first that a view doesn't have, how many it has, and the places of those.
 pub fn find(form: Form, list: &[u32], line: &[u32], view: &[u32]) -> Found
     requires { ⌜ (length (now line) ≡ words) × (sales (now line) ≤ mostSales) × (length (formOf form .tokens (now list) (now line)) ≤ mostHeld) × (length (now view) ≤ mostHeld) ⌝ }
     ensures { λ r. ⌜ r ≡ found (now (view .entry)) (formOf form .tokens (now (list .entry)) (now (line .entry))) 0 ⌝ }

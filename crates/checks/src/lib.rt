@@ -74,7 +74,7 @@ pub fn stock(view: u32, left: usize, n: u32) -> u8
     0
 }
 
-// A sale or a clear, so far as both are judged alike.
+// A sale or a clear of either kind, so far as they are judged alike.
 pub fn line(bench: u32, customer: u32, line: u32) -> u8
     ensures { λ r. ⌜ r ≡ first (lineRules bench customer line) ⌝ }
 {
@@ -118,9 +118,13 @@ pub fn shaken(handshake: u32) -> u8
     0
 }
 
-pub fn clear(dead: usize, n: usize) -> u8
-    ensures { λ r. ⌜ r ≡ first (clearRules dead n) ⌝ }
+// A dead token stands in the way of a whole line alone.
+pub fn clear(whole: bool, dead: usize, n: usize) -> u8
+    ensures { λ r. ⌜ r ≡ first (clearRules whole dead n) ⌝ }
 {
+    if !whole {
+        return 0;
+    }
     if dead < n {
         return 15;
     }

@@ -3,13 +3,14 @@ use mathlib.Core.Path.{_≡_, refl, sym, ap, _∙_}
 use borrow.Author.Tests.{not-false}
 use Rattle.rules.specs.declared.Hall.{Hall}
 use Rattle.rules.specs.declared.Entry.{Entry}
-use Rattle.rules.specs.Lists.{ℕ, List}
+use Rattle.rules.specs.Lists.{ℕ, true, false, List}
 use Rattle.rules.specs.Answers.{first, Answer, Gives}
-use Rattle.rules.specs.Tape.{JoinCustomer, JoinBench, OpenLine, Update, Stock, Sell, BenchAuthenticates, DeskAuthenticates, Clear, TopUp, kindOf, entryRules}
+use Rattle.rules.specs.Tape.{JoinCustomer, JoinBench, OpenLine, Update, Stock, Sell, BenchAuthenticates, DeskAuthenticates, TopUp, kindOf, clears, entryRules}
 use Rattle.rules.specs.Form.{Form}
 use Rattle.rules.specs.declared.Reply.{Reply}
 use Rattle.rules.specs.Verdicts.{Stepped, StepGives, step}
 use Rattle.rules.proofs.Answering.{passed as rules-passed}
+use Rattle.rules.proofs.Tests.{never}
 use Rattle.rules.proofs.ByKind.{IsKind, by-kind}
 use Rattle.rules.proofs.Granted.{formed-kind}
 use Rattle.rules.proofs.Dead.{second-other}
@@ -24,7 +25,7 @@ module _ (f : Form) (h : Hall) (ts b : List ℕ) (e : Entry) {a : Answer} (is : 
   as-step g = rw is g
 
   -- no kind but a clear has one
-  pub as-other : {n : ℕ} {cells : List ℕ} → (e .kind ≡ kindOf Clear → ⊥) → Gives a n cells → StepGives (step f h ts b e) (alone n) cells
+  pub as-other : {n : ℕ} {cells : List ℕ} → clears (e .kind) ≡ false → Gives a n cells → StepGives (step f h ts b e) (alone n) cells
   as-other other g =
       record {
         number = g .number ∙ ap (λ (s : Stepped). s .number) (sym is);
@@ -42,7 +43,7 @@ pub record Other (k : ℕ) : Type 0 where
   pub sell : k ≡ kindOf Sell → ⊥
   pub bench-authenticates : k ≡ kindOf BenchAuthenticates → ⊥
   pub desk-authenticates : k ≡ kindOf DeskAuthenticates → ⊥
-  pub clear : k ≡ kindOf Clear → ⊥
+  pub clears-none : clears k ≡ false
 
 other-tops-up : (k : ℕ) → IsKind k → Other k → k ≡ kindOf TopUp
 other-tops-up =
@@ -56,8 +57,9 @@ other-tops-up =
       sell = λ o. absurd (o .sell refl);
       bench-authenticates = λ o. absurd (o .bench-authenticates refl);
       desk-authenticates = λ o. absurd (o .desk-authenticates refl);
-      clear = λ o. absurd (o .clear refl);
+      clear = λ o. never true refl (o .clears-none);
       top-up = λ o. refl;
+      clear-living = λ o. never true refl (o .clears-none);
     }
 
 module _ (f : Form) (h : Hall) (ts b : List ℕ) (e : Entry) where

@@ -19,7 +19,7 @@ module _ (f : Form) (h : Hall) (ts b : List ℕ) where
     -- the table's number is told, and the book is left
     turned-away : (n : ℕ) → n ≡ first (table f h ts b e) → (n ≡ 0 → ⊥) → (n ≡ 15 → ⊥) → StepGives (step f h ts b e) (alone n) b
     unfolding step
-    turned-away n is bad lives = told-none f h ts b e (refused (table f h ts b e) (effect f h ts b e) b n is bad) lives
+    turned-away n is bad lives = told-none f h ts b e (refused (table f h ts b e) (effect f h ts b e) b n is bad) bad lives
 
     pub step-unsound : f .good h ts b ≡ false → StepGives (step f h ts b e) (alone 1) b
     unfolding table first

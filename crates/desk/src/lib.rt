@@ -6,7 +6,8 @@ ghost use Prim.Native.Nat.{_*_, _≤_};
 ghost use lib.ListN.{length};
 ghost use Rattle.rules.specs.Hall.{mainHall};
 ghost use Rattle.rules.specs.Answers.{first};
-ghost use Rattle.rules.specs.Tape.{Clear, kindOf, entryRules, entries};
+ghost use mathlib.Core.Bool.{false};
+ghost use Rattle.rules.specs.Tape.{clears, entryRules, entries};
 ghost use Rattle.rules.specs.Verdicts.{step, StepGives, steps, oneEach, run, RunGives};
 ghost use Rattle.book.specs.Forms.{formOf};
 ghost use Rattle.steps.specs.Replies.{alone};
@@ -33,7 +34,7 @@ pub fn is_good(form: Form, h: Hall, tokens: &[u32], book: &[u32]) -> bool
 
 // The record has passed numbers 1 to 3: its kind's own checks and changes. No kind here has a second number.
 fn step_other(form: Form, h: Hall, tokens: &[u32], book: &mut [u32], e: Entry) -> u8
-    requires { ⌜ Known (formOf form) h (now tokens) (now book) × (first (entryRules h e) ≡ 0) × (e .kind ≡ kindOf Clear → ⊥) ⌝ }
+    requires { ⌜ Known (formOf form) h (now tokens) (now book) × (first (entryRules h e) ≡ 0) × (clears (e .kind) ≡ false) ⌝ }
     ensures { λ r. ⌜ StepGives (step (formOf form) h (now (tokens .entry)) (now (book .entry)) e) (alone r) (now (book .exit)) ⌝ }
 {
     if e.kind == 1 {
@@ -63,12 +64,22 @@ fn step_other(form: Form, h: Hall, tokens: &[u32], book: &mut [u32], e: Entry) -
     steps::top_up(h, book, e)
 }
 
-// A clear has one, where it meets a dead token.
+// Either clear, of a whole line or of what lives in it.
+fn is_clear(kind: u8) -> bool
+    ensures { λ r. ⌜ r ≡ clears kind ⌝ }
+{
+    if kind == 9 {
+        return true;
+    }
+    kind == 11
+}
+
+// A clear has one: which token is dead, or how many are dropped.
 fn step_kind(form: Form, h: Hall, tokens: &[u32], book: &mut [u32], e: Entry) -> Reply
     requires { ⌜ Known (formOf form) h (now tokens) (now book) × (first (entryRules h e) ≡ 0) ⌝ }
     ensures { λ r. ⌜ StepGives (step (formOf form) h (now (tokens .entry)) (now (book .entry)) e) r (now (book .exit)) ⌝ }
 {
-    if e.kind == 9 {
+    if is_clear(e.kind) {
         return sales::clear(form, h, tokens, book, e);
     }
     alone(step_other(form, h, tokens, book, e))

@@ -8,7 +8,7 @@ use Rattle.rules.specs.declared.Entry.{Entry}
 use Rattle.rules.specs.Lists.{ℕ, _*_, Bool, true, false, eqb, List, [], _∷_, length, occ, isIn}
 use Rattle.rules.specs.Hall.{Place, Desk, Carnet, View, BenchView, Till, Line, number, records}
 use Rattle.rules.specs.Records.{words, inUse, amount, handshake, held, made, withAmount, withHandshake}
-use Rattle.rules.specs.Tape.{JoinBench, Stock, BenchAuthenticates, DeskAuthenticates, Clear, kindOf, usesBench}
+use Rattle.rules.specs.Tape.{JoinBench, Stock, BenchAuthenticates, DeskAuthenticates, Clear, ClearLiving, kindOf, usesBench}
 use Rattle.rules.specs.Form.{Form, plain}
 use Rattle.rules.specs.Steps.{joining, dealing, updating, stocking, selling, authenticating, settling, clearing, toppingUp, changes, effect, theBenchView}
 use Rattle.rules.specs.Verdicts.{verdict, step}
@@ -28,7 +28,7 @@ use Rattle.keeps.proofs.Fits.{Regular, fits, stands, step-stands}
 
 -- ---- the kinds that write its balance and its tokens; `writesHandshake` are those that write the third
 abbrev pub writesBalance : ℕ → Bool
-writesBalance k = isIn k (kindOf Clear ∷ [])
+writesBalance k = isIn k (kindOf Clear ∷ kindOf ClearLiving ∷ [])
 
 abbrev pub writesTokens : ℕ → Bool
 writesTokens k = isIn k (kindOf Stock ∷ kindOf BenchAuthenticates ∷ kindOf DeskAuthenticates ∷ [])
@@ -105,6 +105,7 @@ module _ (f : Form) (regular : Regular f) (strangers : Strangers f) (h : Hall) (
           desk-authenticates = λ q. (tt, (anew (kindOf DeskAuthenticates) (theBenchView h b e) refl refl 2 _, tt));
           clear = λ q. (tt, (paid (kindOf Clear) (theBenchView h b e) refl refl _ 0, (tt, tt)));
           top-up = λ q. (tt, tt);
+          clear-living = λ q. (tt, (paid (kindOf ClearLiving) (theBenchView h b e) refl refl _ 0, (tt, tt)));
         }
 
     long : length b ≡ words * records h
@@ -133,6 +134,7 @@ module _ (f : Form) (regular : Regular f) (strangers : Strangers f) (h : Hall) (
           desk-authenticates = λ s w. rw here (s .1 .0);
           clear = λ s w. rw here (s .1 .0);
           top-up = λ s w. never false w refl;
+          clear-living = λ s w. rw here (s .1 .0);
         }
         k i (changes-shake f h ts b e whole k i)
 

@@ -6,15 +6,15 @@ use native.Mathlib.Omega.{arith}
 use lib.ListN.{length-append, length-take, length-drop}
 use Rattle.rules.specs.declared.Hall.{Hall}
 use Rattle.rules.specs.declared.Entry.{Entry}
-use Rattle.rules.specs.Lists.{ℕ, _+_, _-_, min, Bool, true, false, cond, _&&_, eqb, List, [], _∷_, _++_, length, take, drop, every, occ, isIn, allDifferent, without}
+use Rattle.rules.specs.Lists.{ℕ, _+_, _-_, min, Bool, true, false, cond, _&&_, eqb, List, [], _∷_, _++_, length, take, drop, every, occ, allDifferent, without}
 use Rattle.rules.specs.Hall.{mostHeld, mostSales, mostBudget, Place, Desk, Carnet, View, BenchView, Till, Line, number, spendable, views}
 use Rattle.rules.specs.Records.{inUse, amount, count, sales, handshake, held, filled, made, withAmount, withHandshake, recordAt}
 use Rattle.rules.specs.Sound.{total, mostTotal}
 use Rattle.rules.specs.Form.{plain}
-use Rattle.rules.specs.Steps.{dealt, left, fresh, _≔_, joining, dealing, theCarnet, theView, theBenchView, theTill, theLine, updating, stocking, soldLine, selling, authenticating, settling, clearing, toppingUp}
+use Rattle.rules.specs.Steps.{dealt, left, fresh, _≔_, joining, dealing, theCarnet, theView, theBenchView, theTill, theLine, updating, stocking, soldLine, selling, authenticating, settling, living, clearing, toppingUp}
 use Rattle.laws.proofs.Occurrences.{occ-append, occ-split, different-once, once-different}
 use Rattle.laws.proofs.Sums.{part-of-sum}
-use Rattle.laws.proofs.Tokens.{every-append, every-take, every-drop, every-without, without-occ, without-length}
+use Rattle.laws.proofs.Tokens.{every-append, every-take, every-drop, every-without, without-occ, without-length, among-occ, every-among}
 use Rattle.laws.proofs.Made.{made-use, made-amount, made-count, made-held, with-use, with-held, amount-use, amount-is, amount-count, amount-held, handshake-amount}
 use Rattle.laws.proofs.Reflect.{Parties, Book}
 use Rattle.laws.proofs.Asked.{record-shaped, no-use, LineGood}
@@ -262,15 +262,16 @@ module _ (h : Hall) (ts b : List ℕ) (e : Entry) (ok : Book h ts b) where
       }
 
   pub clear-fine : m < h .benches → c < h .customers → used (View c) ≡ 1 → used (BenchView m) ≡ 1 → used (Line m c) ≡ 1
-      → every (λ t. isIn t (held (theView h b e))) (held (theLine h b e)) ≡ true
       → Each (Fit h) (clearing h b e plain ts) → Fine h ts b (dealt b) 0 0 (clearing h b e plain ts)
   unfolding settling clearing occ every
-  clear-fine im ic hasV hasB hasL lives fits =
-      let X : List ℕ = held (theLine h b e) in
+  clear-fine im ic hasV hasB hasL fits =
+      let L : List ℕ = held (theLine h b e) in
+      let X : List ℕ = living h b e plain ts in
       let Y : List ℕ = held (theView h b e) in
       let different : allDifferent X ≡ true =
       once-different X (λ t. omega (
         arith,
+        among-occ t (held (theView h b e)) (held (theLine h b e)),
         part-of-sum (λ k. occ t (held (recordAt k b))) (number h (Line m c)) (spendable h) (omega (arith, spends-group h (Line m c) (im, ic))),
         ok .1 .spent t,
       )) in
@@ -281,7 +282,7 @@ module _ (h : Hall) (ts b : List ℕ) (e : Entry) (ok : Book h ts b) where
         ok .1 .viewed t,
       ) in
       let paid : length (without X Y) + length X ≡ count (theView h b e) =
-      omega (arith, without-length X Y different lives once, full (View c) ic) in
+      omega (arith, without-length X Y different (every-among Y L) once, full (View c) ic) in
       let paid-view : List ℕ = withAmount (amount (theBenchView h b e) + length X) (theBenchView h b e) in
       let balance : amount (withHandshake 0 paid-view) ≡ amount (theBenchView h b e) + length X =
       handshake-amount 0 paid-view ∙ amount-is _ (theBenchView h b e) (long (BenchView m) im) in

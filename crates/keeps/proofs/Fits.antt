@@ -8,9 +8,9 @@ use Rattle.rules.specs.declared.Entry.{Entry}
 use Rattle.rules.specs.Lists.{ℕ, _*_, true, List, [], _++_, length, take, drop, occ, without}
 use Rattle.rules.specs.Hall.{mostHeld, Place, Desk, Carnet, View, BenchView, Till, Line, number, records}
 use Rattle.rules.specs.Records.{words, held, made, withAmount, recordAt}
-use Rattle.rules.specs.Tape.{Sell, Clear, TopUp, kindOf, usesBench, usesCustomer}
+use Rattle.rules.specs.Tape.{Sell, TopUp, kindOf, clears, usesBench, usesCustomer}
 use Rattle.rules.specs.Form.{Form, plain}
-use Rattle.rules.specs.Steps.{fresh, joining, dealing, updating, stocking, soldLine, selling, authenticating, settling, clearing, toppingUp, changes, effect, theCarnet, theView, theLine}
+use Rattle.rules.specs.Steps.{fresh, joining, dealing, updating, stocking, soldLine, selling, authenticating, settling, clearing, toppingUp, changes, effect, theCarnet, theView, theLine, living}
 use Rattle.rules.specs.Verdicts.{verdict, step}
 use Rattle.laws.proofs.Tokens.{without-short}
 use Rattle.laws.proofs.Made.{filled-long, made-long, with-long}
@@ -20,7 +20,7 @@ use Rattle.laws.proofs.Places.{Inside}
 use Rattle.rules.proofs.Stepping.{step-changes}
 use Rattle.rules.proofs.Named.{Each, Named, changes-named}
 use Rattle.laws.proofs.Changes.{at, each-both, Fit, apart, lookup, at-long, all-at}
-use Rattle.rules.proofs.ByKind.{IsKind, by-kind}
+use Rattle.rules.proofs.ByKind.{IsKind, by-kind, clears-bench}
 use Rattle.rules.proofs.Granted.{granted-good, granted-kind, bench-inside, customer-inside, stock-few, update-room, sell-room}
 
 module _ (f : Form) (h : Hall) (ts b : List ℕ) (e : Entry) where
@@ -39,6 +39,7 @@ module _ (f : Form) (h : Hall) (ts b : List ℕ) (e : Entry) where
         desk-authenticates = refl;
         clear = refl;
         top-up = refl;
+        clear-living = refl;
       }
 
   module _ (v : verdict f h ts b e ≡ 0) where
@@ -66,9 +67,8 @@ module _ (f : Form) (h : Hall) (ts b : List ℕ) (e : Entry) where
     none : (a : ℕ) → length (made a 0 []) ≡ words
     none a = made-long a 0 [] (omega arith)
 
-    pub clear-bench : e .kind ≡ kindOf Clear → Inside h (BenchView (e .bench))
-    unfolding occ
-    clear-bench k = its-bench (ap usesBench k, refl)
+    pub clear-bench : clears (e .kind) ≡ true → Inside h (BenchView (e .bench))
+    clear-bench c = its-bench (clears-bench (e .kind) c, refl)
 
     pub top-up-customer : e .kind ≡ kindOf TopUp → Inside h (View (e .customer))
     unfolding occ
@@ -79,6 +79,12 @@ module _ (f : Form) (h : Hall) (ts b : List ℕ) (e : Entry) where
     changes-long long sold =
         let same : (a : ℕ) (p : Place) → Inside h p → length (withAmount a (at h b p)) ≡ words =
         λ a p i. with-long 1 a (at h b p) ∙ at-long h b long p i in
+        let cleared : clears (e .kind) ≡ true → Each (λ p r. length r ≡ words) (clearing h b e f ts) =
+        λ c. (
+          made-long _ 0 (without (living h b e f ts) (held (theView h b e)))
+              (omega (arith, without-short (living h b e f ts) (held (theView h b e)), held-few (number h (View (e .customer))) b)),
+          (with-long 3 0 _ ∙ same _ (BenchView (e .bench)) (clear-bench c), (none 0, tt)),
+        ) in
         by-kind (λ k. e .kind ≡ k → Each (λ p r. length r ≡ words) (changes h b e f ts k))
         record {
           join-customer = λ k. (none 0, (none _, tt));
@@ -89,12 +95,9 @@ module _ (f : Form) (h : Hall) (ts b : List ℕ) (e : Entry) where
           sell = λ k. (few 0 0 (e .amount) _, (sold k, tt));
           bench-authenticates = λ k. (few 0 0 1 _, (few _ 1 1 _, tt));
           desk-authenticates = λ k. (few 0 0 1 _, (few _ 2 1 _, tt));
-          clear = λ k.
-              let t : List ℕ = f .tokens ts (theLine h b e) in (
-                made-long _ 0 (without t (held (theView h b e))) (omega (arith, without-short t (held (theView h b e)), held-few (number h (View (e .customer))) b)),
-                (with-long 3 0 _ ∙ same _ (BenchView (e .bench)) (clear-bench k), (none 0, tt)),
-              );
+          clear = λ k. cleared (ap clears k);
           top-up = λ k. (same _ (View (e .customer)) (top-up-customer k), tt);
+          clear-living = λ k. cleared (ap clears k);
         }
         (e .kind) (granted-kind f h ts b e v) refl
 

@@ -1,4 +1,4 @@
--- A bench's granted clears over a tape that begins with the empty book: each comes next after the desk's authentication, and that
+-- A bench's granted clears, of either kind, over a tape that begins with the empty book: each comes next after the desk's authentication, and that
 -- next after the bench's. The statement reads records and verdicts; books come in only in the proof.
 use mathlib.Core.Path.{_≡_, refl, sym, ap, _∙_, subst}
 use mathlib.Core.Logic.{⊎-elim}
@@ -11,10 +11,10 @@ use Rattle.rules.specs.Lists.{ℕ, zero, suc, _+_, Bool, true, false, cond, not
 use Rattle.rules.specs.Hall.{BenchView, number}
 use Rattle.rules.specs.Records.{handshake}
 use Rattle.rules.specs.Sound.{emptyBook}
-use Rattle.rules.specs.Tape.{BenchAuthenticates, DeskAuthenticates, Clear, kindOf, entries}
+use Rattle.rules.specs.Tape.{BenchAuthenticates, DeskAuthenticates, kindOf, clears, entries}
 use Rattle.rules.specs.Form.{Form, plain}
 use Rattle.rules.specs.Verdicts.{verdict, step, Ran, steps, run}
-use Rattle.rules.proofs.Tests.{same, and-left, and-right, and-false, true-and}
+use Rattle.rules.proofs.Tests.{never, same, and-left, and-right, and-false, true-and}
 use Rattle.rules.proofs.Stepping.{step-refused, step-verdict}
 use Rattle.rules.proofs.Along.{along}
 use Rattle.rules.proofs.Running.{run-does, run-granted}
@@ -43,7 +43,7 @@ pub record Follows (ks : List ℕ) (i : ℕ) : Type 0 where
   pub desk : getD ks (suc from) 0 ≡ kindOf DeskAuthenticates
 
 abbrev pub Handshaken : List ℕ → Type 0
-Handshaken ks = (i : ℕ) → getD ks i 0 ≡ kindOf Clear → Follows ks i
+Handshaken ks = (i : ℕ) → clears (getD ks i 0) ≡ true → Follows ks i
 
 pub record Handshakes (f : Form) : Type 0 where
   pub along-tape : (h : Hall) (ts : List ℕ) (es : List Entry) (m : ℕ) → m < h .benches → Handshaken (doings m es (steps f h ts (emptyBook h) es .verdicts))
@@ -52,7 +52,7 @@ pub record Handshakes (f : Form) : Type 0 where
 
 -- ---- of a list of kinds: each finds the handshake that it needs, from s on
 abbrev finds : ℕ → ℕ → Bool
-finds s k = (not (eqb k (kindOf DeskAuthenticates)) || eqb s 1) && (not (eqb k (kindOf Clear)) || eqb s 2)
+finds s k = (not (eqb k (kindOf DeskAuthenticates)) || eqb s 1) && (not (clears k) || eqb s 2)
 
 allowed : ℕ → List ℕ → Bool
 allowed s [] = true
@@ -82,12 +82,12 @@ behind (suc zero) ks i p = later _ ks i p
 behind (suc (suc n)) ks i p = later _ _ (suc i) (later _ ks i p)
 
 -- so a clear among them follows on both, with what was before
-follows : (s : ℕ) (ks : List ℕ) → allowed s ks ≡ true → (i : ℕ) → getD ks i 0 ≡ kindOf Clear → Follows (before s ++ ks) (ahead s i)
+follows : (s : ℕ) (ks : List ℕ) → allowed s ks ≡ true → (i : ℕ) → clears (getD ks i 0) ≡ true → Follows (before s ++ ks) (ahead s i)
 unfolding allowed
-follows s [] a i c = absurd (omega (arith, c))
+follows s [] a i c = never false c refl
 follows s (k ∷ ks) a zero c =
     let found : finds s k ≡ true = and-left _ (allowed (comesTo k) ks) a in
-    let two : s ≡ 2 = eqb-true _ _ (rw (eq-eqb k (kindOf Clear) c) at (and-right (not (eqb k (kindOf DeskAuthenticates)) || eqb s 1) _ found)) in
+    let two : s ≡ 2 = eqb-true _ _ (rw c at (and-right (not (eqb k (kindOf DeskAuthenticates)) || eqb s 1) _ found)) in
     subst (λ (x : ℕ). Follows (before x ++ k ∷ ks) (ahead x 0)) (sym two) (record { from = 0; directly = refl; bench = refl; desk = refl })
 follows s (k ∷ ks) a (suc i) c =
     let found : finds s k ≡ true = and-left _ (allowed (comesTo k) ks) a in
@@ -152,7 +152,7 @@ module _ (f : Form) (regular : Regular f) (strangers : Strangers f) (h : Hall) (
           true-and _ _
           (true-and _ _
           (met _ _ (λ k. eq-eqb _ _ (sym (of-it b) ∙ desk-handshake f h ts b e v (eqb-true _ _ k))))
-          (met _ _ (λ k. eq-eqb _ _ (sym (of-it b) ∙ clear-handshake f h ts b e v (eqb-true _ _ k)))))
+          (met _ _ (λ k. eq-eqb _ _ (sym (of-it b) ∙ clear-handshake f h ts b e v k))))
           (ap (λ (s : ℕ). allowed s ks) onward ∙ rest)
 
   kept : (b : List ℕ) (es : List Entry) → allowed (shaken b) (doings m es (steps f h ts b es .verdicts)) ≡ true

@@ -50,6 +50,7 @@ module _ (f : Form) (regular : Regular f) (h : Hall) (ts b : List ℕ) (e : Entr
         desk-authenticates = λ k. rw k (omega arith);
         clear = λ k. rw k (omega arith);
         top-up = λ k. rw k (omega arith);
+        clear-living = λ k. rw k (omega arith);
       }
 
   -- a record that a dealing wrote, at its place

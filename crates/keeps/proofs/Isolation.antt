@@ -1,6 +1,7 @@
 -- A step leaves every record of a party that it doesn't name, word for word: no bench is touched by another's step. A top up
 -- leaves every word but one.
 use mathlib.Core.Path.{_≡_, refl, sym, _∙_}
+use mathlib.Core.Logic.{⊎-elim}
 use Prim.Native.Nat.{_<_}
 use native.Mathlib.Omega.{arith}
 use Rattle.rules.specs.declared.Hall.{Hall}
@@ -12,13 +13,14 @@ use Rattle.rules.specs.Tape.{TopUp, kindOf, usesBench}
 use Rattle.rules.specs.Form.{Form}
 use Rattle.rules.specs.Steps.{putAll, theView, toppingUp, changes, effect}
 use Rattle.rules.specs.Verdicts.{verdict, step}
+use Rattle.rules.proofs.Tests.{same}
 use Rattle.rules.proofs.Stepping.{step-changes, step-cases}
 use Rattle.laws.proofs.Blocks.{block-word}
 use Rattle.laws.proofs.Places.{Inside, inside-below}
-use Rattle.laws.proofs.Changes.{at, all-outside}
+use Rattle.laws.proofs.Changes.{at, lookup, all-outside}
 use Rattle.rules.proofs.Granted.{granted-good, granted-kind}
 use Rattle.rules.proofs.Named.{Named, changes-named}
-use Rattle.keeps.proofs.Fits.{Regular, fits, top-up-customer}
+use Rattle.keeps.proofs.Fits.{Regular, fits, stands, top-up-customer}
 
 -- bench m's till, desk's view and lines are the same in two books
 pub record SameBench (h : Hall) (b b′ : List ℕ) (m : ℕ) : Type 0 where
@@ -37,6 +39,18 @@ module _ (f : Form) (regular : Regular f) (h : Hall) (ts b : List ℕ) (e : Entr
       (fits f regular h ts b e v)
       (changes-named f h ts b e (e .kind) (granted-kind f h ts b e v)) q i other)
       refl
+
+  -- what is said of two records that a step writes for customer c alone: shown of a granted step that names c, it is kept by every step
+  pub of-customer : (R : List ℕ → List ℕ → Type 0) (c : ℕ) (p q : Place) → Inside h p → Inside h q
+      → (Named e (e .kind) p → c ≡ e .customer) → (Named e (e .kind) q → c ≡ e .customer)
+      → (verdict f h ts b e ≡ 0 → c ≡ e .customer → R (lookup (changes h b e f ts (e .kind)) (at h b) p) (lookup (changes h b e f ts (e .kind)) (at h b) q))
+      → R (at h b p) (at h b q) → R (at h (step f h ts b e .cells) p) (at h (step f h ts b e .cells) q)
+  of-customer R c p q i j its its′ named was =
+      ⊎-elim
+      (λ (s : c ≡ e .customer).
+      step-cases f h ts b e (λ b′. R (at h b′ p) (at h b′ q)) (λ v. rw (stands f regular h ts b e v p i, stands f regular h ts b e v q j) (named v s)) was)
+      (λ (n : c ≡ e .customer → ⊥). rw (isolation p i (λ x. n (its x)), isolation q j (λ x. n (its′ x))) was)
+      (same c (e .customer))
 
   -- a bench that the step doesn't name: any other than the one it names, and all of them where it names none
   pub other-bench : (m : ℕ) → m < h .benches → (usesBench (e .kind) ≡ true → m ≡ e .bench → ⊥) → SameBench h b (step f h ts b e .cells) m

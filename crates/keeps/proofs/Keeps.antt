@@ -4,14 +4,15 @@ use Prim.Native.Nat.{_≤_, _<_}
 use native.Mathlib.Omega.{arith}
 use Rattle.rules.specs.declared.Hall.{Hall}
 use Rattle.rules.specs.declared.Entry.{Entry}
-use Rattle.rules.specs.Lists.{ℕ, true, _||_, eqb, List, [], _∷_, _++_, length, occ, _+_, cond}
+use Rattle.rules.specs.Lists.{ℕ, Bool, true, _||_, eqb, List, [], _∷_, _++_, length, occ, _+_, cond}
 use Rattle.rules.specs.Hall.{Carnet, View, Till, BenchView, Line, number}
 use Rattle.rules.specs.Records.{inUse, recordAt}
-use Rattle.rules.specs.Tape.{JoinCustomer, JoinBench, OpenLine, Sell, Clear, TopUp, kindOf, usesBench, usesCustomer, entries}
+use Rattle.rules.specs.Tape.{JoinCustomer, JoinBench, OpenLine, Sell, TopUp, kindOf, clears, usesBench, usesCustomer, entries}
 use Rattle.rules.specs.Form.{Form, plain}
-use Rattle.rules.specs.Steps.{changes, effect}
+use Rattle.rules.specs.Steps.{dealt, clearing, changes, effect}
 use Rattle.rules.specs.Sound.{total, sound}
 use Rattle.rules.specs.Verdicts.{verdict, step, Ran, idle, onward, steps, oneEach, run}
+use Rattle.rules.proofs.Tests.{or-yes}
 use Rattle.rules.proofs.Stepping.{step-cases}
 use Rattle.rules.proofs.Along.{along}
 use Rattle.rules.proofs.Running.{then, steps-answer, run-does, run-granted, run-joined}
@@ -20,8 +21,8 @@ use Rattle.laws.proofs.Books.{facts-at, line-at}
 use Rattle.laws.proofs.Places.{inside-below}
 use Rattle.rules.proofs.Named.{Each}
 use Rattle.laws.proofs.Changes.{Fit, apart}
-use Rattle.rules.proofs.ByKind.{by-kind}
-use Rattle.rules.proofs.Granted.{granted-good, granted-kind, bench-inside, customer-inside, new-customer, new-bench, has-bench, has-customer, has-line, join-budget, stock-few, update-budget, update-room, update-left, stock-left, sell-enough, sell-room, sell-few, clear-lives, top-up-within}
+use Rattle.rules.proofs.ByKind.{by-kind, clears-bench, clears-customer}
+use Rattle.rules.proofs.Granted.{granted-good, granted-kind, bench-inside, customer-inside, new-customer, new-bench, has-bench, has-customer, has-line, join-budget, stock-few, update-budget, update-room, update-left, stock-left, sell-enough, sell-room, sell-few, top-up-within}
 use Rattle.keeps.proofs.Fits.{changes-apart, fits, plain-regular}
 use Rattle.keeps.proofs.Fine.{Fine, fine-money, fine-keeps}
 use Rattle.keeps.proofs.FineKinds.{join-customer-fine, join-bench-fine, open-line-fine, update-fine, stock-fine, sell-fine, authenticate-fine, clear-fine, top-up-fine}
@@ -54,8 +55,14 @@ module _ (h : Hall) (ts b : List ℕ) (e : Entry) (v : verdict plain h ts b e �
   hasC : (k : ℕ) → e .kind ≡ k → kindOf OpenLine ≤ k → usesCustomer k ≡ true → inUse (recordAt (number h (Carnet (e .customer))) b) ≡ 1
   hasC k q l u = ok .1 .parties .customers (e .customer) (customer k q u) ∙ hasV k q l u
 
-  hasL : (k : ℕ) → e .kind ≡ k → eqb k (kindOf Sell) || eqb k (kindOf Clear) ≡ true → inUse (recordAt (number h (Line (e .bench) (e .customer))) b) ≡ 1
-  hasL k q u = has-line plain h ts b e v (ap (λ (i : ℕ). eqb i (kindOf Sell) || eqb i (kindOf Clear)) q ∙ u)
+  hasL : (k : ℕ) → e .kind ≡ k → eqb k (kindOf Sell) || clears k ≡ true → inUse (recordAt (number h (Line (e .bench) (e .customer))) b) ≡ 1
+  hasL k q u = has-line plain h ts b e v (ap (λ (i : ℕ). eqb i (kindOf Sell) || clears i) q ∙ u)
+
+  cleared : (k : ℕ) → e .kind ≡ k → kindOf OpenLine ≤ k → clears k ≡ true → Each (Fit h) (clearing h b e plain ts) → Fine h ts b (dealt b) 0 0 (clearing h b e plain ts)
+  cleared k q l c =
+      let m : usesBench k ≡ true = clears-bench k c in
+      let u : usesCustomer k ≡ true = clears-customer k c in
+      clear-fine h ts b e ok (bench k q m) (customer k q u) (hasV k q l u) (hasB k q l m) (hasL k q (ap (λ (t : Bool). eqb k (kindOf Sell) || t) c ∙ or-yes (eqb k (kindOf Sell))))
 
   newC : e .kind ≡ kindOf JoinCustomer → e .customer < h .customers → inUse (recordAt (number h (Carnet (e .customer))) b) ≡ 0
   newC q i =
@@ -88,9 +95,9 @@ module _ (h : Hall) (ts b : List ℕ) (e : Entry) (v : verdict plain h ts b e �
             (_, (_, sell-fine h ts b e ok (i .0) (i .1) (hasC 6 q (omega arith) refl) (hasL 6 q refl) (sell-enough plain h ts b e v q) (sell-room plain h ts b e v q) few w));
         bench-authenticates = λ q w. (_, (_, authenticate-fine h ts b e ok 1 (omega arith) (bench 7 q refl) (hasB 7 q (omega arith) refl) w));
         desk-authenticates = λ q w. (_, (_, authenticate-fine h ts b e ok 2 (omega arith) (bench 8 q refl) (hasB 8 q (omega arith) refl) w));
-        clear = λ q w.
-            (_, (_, clear-fine h ts b e ok (bench 9 q refl) (customer 9 q refl) (hasV 9 q (omega arith) refl) (hasB 9 q (omega arith) refl) (hasL 9 q refl) (clear-lives plain h ts b e v q) w));
+        clear = λ q w. (_, (_, cleared 9 q (omega arith) refl w));
         top-up = λ q w. (_, (_, top-up-fine h ts b e ok (customer 10 q refl) (hasV 10 q (omega arith) refl) (top-up-within plain h ts b e v q) w));
+        clear-living = λ q w. (_, (_, cleared 11 q (omega arith) refl w));
       }
       (e .kind) (granted-kind plain h ts b e v) refl
 

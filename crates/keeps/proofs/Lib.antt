@@ -9,3 +9,4 @@ pub mod Nothing
 pub mod InFull
 pub mod BenchViews
 pub mod Handshake
+pub mod Carnets

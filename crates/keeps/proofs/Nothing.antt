@@ -1,20 +1,22 @@
--- A sale of 0 and a top up of 0 change no word of a sound book, and a clear of an empty line none but the handshake, which it uses up.
-use mathlib.Core.Path.{_≡_, refl, sym, ap, _∙_}
+-- A sale of 0 and a top up of 0 change no word of a sound book, and a clear of an empty line, of either kind, none but the handshake,
+-- which it uses up.
+use mathlib.Core.Path.{_≡_, refl, sym, ap, _∙_, subst}
 use mathlib.Core.Logic.{⊎-elim}
 use Prim.Native.Nat.{_≤_, _<_}
 use native.Mathlib.Omega.{arith}
 use borrow.Author.Tests.{eqb-true}
 use Rattle.rules.specs.declared.Hall.{Hall}
 use Rattle.rules.specs.declared.Entry.{Entry}
-use Rattle.rules.specs.Lists.{ℕ, _+_, _*_, min, true, _&&_, _||_, leb, eqb, List, [], _∷_, _++_, length, take, drop, occ, without}
+use Rattle.rules.specs.Lists.{ℕ, _+_, _*_, min, true, _&&_, _||_, leb, eqb, List, [], _∷_, _++_, length, take, drop, occ, without, among}
 use Rattle.rules.specs.Hall.{Place, Carnet, View, BenchView, Line, number, records}
 use Rattle.rules.specs.Records.{words, inUse, amount, count, sales, held, filled, made, withWord, withAmount, withHandshake, recordAt, put}
-use Rattle.rules.specs.Tape.{Sell, Clear, TopUp, kindOf, usesBench, usesCustomer}
+use Rattle.rules.specs.Tape.{Sell, TopUp, kindOf, clears, usesBench, usesCustomer}
 use Rattle.rules.specs.Form.{Form, plain}
-use Rattle.rules.specs.Steps.{Change, _≔_, putAll, theCarnet, theView, theBenchView, theLine, soldLine, selling, settling, clearing, toppingUp, changes}
+use Rattle.rules.specs.Steps.{Change, _≔_, putAll, theCarnet, theView, theBenchView, theLine, soldLine, selling, living, settling, clearing, toppingUp, changes}
 use Rattle.rules.specs.Verdicts.{verdict, step}
 use Rattle.rules.proofs.Tests.{below, parts}
 use Rattle.rules.proofs.Stepping.{step-changes}
+use Rattle.rules.proofs.ByKind.{by-clear, changes-clear}
 use Rattle.rules.proofs.Granted.{granted-good, bench-inside, customer-inside, has-customer, has-line}
 use Rattle.laws.proofs.Blocks.{block-back, block-word}
 use Rattle.laws.proofs.Made.{with-long, with-own}
@@ -73,7 +75,7 @@ module _ (f : Form) (regular : Regular f) (tidies : Tidies f) (h : Hall) (ts b :
   leaves k b′ q s = step-changes f h ts b e v q ∙ put-leads h b′ s
 
   -- a kind that names a bench, a customer and their line
-  module _ (k : ℕ) (q : e .kind ≡ k) (both : usesBench k && usesCustomer k && leb (kindOf Sell) k && (eqb k (kindOf Sell) || eqb k (kindOf Clear)) ≡ true) where
+  module _ (k : ℕ) (q : e .kind ≡ k) (both : usesBench k && usesCustomer k && leb (kindOf Sell) k && (eqb k (kindOf Sell) || clears k) ≡ true) where
     m-in : e .bench < h .benches
     m-in = bench-inside f h ts b e v (ap usesBench q ∙ search parts)
 
@@ -101,7 +103,7 @@ module _ (f : Form) (regular : Regular f) (tidies : Tidies f) (h : Hall) (ts b :
     line-filled : theLine h b e ≡ filled 1 0 (count (theLine h b e)) (sales (theLine h b e)) (f .cells (theLine h b e))
     line-filled =
         tidy .filled-at (number h (Line (e .bench) (e .customer))) (omega arith) line-in
-        (has-line f h ts b e v (ap (λ (i : ℕ). eqb i (kindOf Sell) || eqb i (kindOf Clear)) q ∙ search parts))
+        (has-line f h ts b e v (ap (λ (i : ℕ). eqb i (kindOf Sell) || clears i) q ∙ search parts))
 
     none-sold : e .amount ≡ 0 → Leads h b b (selling h b e f)
     unfolding selling soldLine
@@ -132,14 +134,15 @@ module _ (f : Form) (regular : Regular f) (tidies : Tidies f) (h : Hall) (ts b :
         (number h (Line (e .bench) (e .customer))) (λ q. omega arith)
 
     none-waiting : count (theLine h b e) ≡ 0 → Leads h unshaken b (clearing h b e f ts)
-    unfolding settling clearing made amount
+    unfolding settling clearing among made amount
     none-waiting z =
         let empty = tidy .emptied (number h (Line (e .bench) (e .customer))) (omega arith) line-in z in
         let blank : filled 1 0 (count (theLine h b e)) (sales (theLine h b e)) (f .cells (theLine h b e)) ≡ made 0 0 [] = rw (z, empty .0, empty .2) in
-        let unpaid : amount (theBenchView h b e) + length (f .tokens ts (theLine h b e)) ≡ amount (theBenchView h b e) = rw (empty .1) (omega arith) in
+        let gone : living h b e f ts ≡ [] = ap (among (held (theView h b e))) (empty .1) in
+        let unpaid : amount (theBenchView h b e) + length (living h b e f ts) ≡ amount (theBenchView h b e) = rw gone (omega arith) in
         (view-made
         ∙ ap (made (amount (theView h b e)) 0)
-        (sym (ap (λ (t : List ℕ). without t (held (theView h b e))) (empty .1) ∙ without-none (held (theView h b e)))))
+        (sym (ap (λ (t : List ℕ). without t (held (theView h b e))) gone ∙ without-none (held (theView h b e)))))
         also (ap (λ (x : List ℕ). put (number h (BenchView (e .bench))) (withHandshake 0 x) b)
         (ap (λ (a : ℕ). withAmount a (theBenchView h b e)) unpaid ∙ with-own 1 (theBenchView h b e))
         ∙ used-up)
@@ -150,9 +153,12 @@ module _ (f : Form) (regular : Regular f) (tidies : Tidies f) (h : Hall) (ts b :
   unfolding changes occ
   sale-of-none q z = leaves (kindOf Sell) b q (none-sold (kindOf Sell) q refl z)
 
-  clear-of-none : e .kind ≡ kindOf Clear → count (theLine h b e) ≡ 0 → step f h ts b e .cells ≡ withWord (words * number h (BenchView (e .bench)) + 3) 0 b
-  unfolding changes occ
-  clear-of-none q z = leaves (kindOf Clear) (unshaken (kindOf Clear) q refl) q (none-waiting (kindOf Clear) q refl z)
+  clear-of-none : clears (e .kind) ≡ true → count (theLine h b e) ≡ 0 → step f h ts b e .cells ≡ withWord (words * number h (BenchView (e .bench)) + 3) 0 b
+  unfolding occ
+  clear-of-none c z =
+      let both = by-clear (λ k. usesBench k && usesCustomer k && leb (kindOf Sell) k && (eqb k (kindOf Sell) || clears k) ≡ true) refl refl (e .kind) c in
+      leaves (e .kind) (unshaken (e .kind) refl both) refl
+      (subst (Leads h (unshaken (e .kind) refl both) b) (sym (changes-clear f h ts b e (e .kind) c)) (none-waiting (e .kind) refl both z))
 
   top-up-of-none : e .kind ≡ kindOf TopUp → e .amount ≡ 0 → step f h ts b e .cells ≡ b
   unfolding changes toppingUp amount
@@ -164,7 +170,7 @@ module _ (f : Form) (regular : Regular f) (tidies : Tidies f) (h : Hall) (ts b :
 -- ---- so, of a form
 pub record Still (f : Form) : Type 0 where
   pub no-sale : (h : Hall) (ts b : List ℕ) (e : Entry) → verdict f h ts b e ≡ 0 → e .kind ≡ kindOf Sell → e .amount ≡ 0 → step f h ts b e .cells ≡ b
-  pub empty-clear : (h : Hall) (ts b : List ℕ) (e : Entry) → verdict f h ts b e ≡ 0 → e .kind ≡ kindOf Clear → count (theLine h b e) ≡ 0
+  pub empty-clear : (h : Hall) (ts b : List ℕ) (e : Entry) → verdict f h ts b e ≡ 0 → clears (e .kind) ≡ true → count (theLine h b e) ≡ 0
       → step f h ts b e .cells ≡ withWord (words * number h (BenchView (e .bench)) + 3) 0 b
   pub no-top-up : (h : Hall) (ts b : List ℕ) (e : Entry) → verdict f h ts b e ≡ 0 → e .kind ≡ kindOf TopUp → e .amount ≡ 0 → step f h ts b e .cells ≡ b
 

@@ -101,6 +101,7 @@ module _ (f : Form) (regular : Regular f) (line : Lines f) (h : Hall) (ts : List
           desk-authenticates = λ k i. inl i;
           clear = λ k i. emptied its i;
           top-up = λ k i. inl i;
+          clear-living = λ k i. emptied its i;
         }
 
   module _ (b : List ℕ) (e : Entry) where

@@ -5,11 +5,12 @@ use Rattle.rules.specs.declared.Hall.{Hall}
 use Rattle.rules.specs.declared.Entry.{Entry}
 use Rattle.rules.specs.Lists.{ℕ, Bool, true, false, _||_, List, drop, occ}
 use Rattle.rules.specs.Answers.{Rule, first, Answer, answer}
-use Rattle.rules.specs.Tape.{entryRules}
+use Rattle.rules.specs.Tape.{clears, entryRules}
 use Rattle.rules.specs.Form.{Form}
 use Rattle.rules.specs.Steps.{putAll, changes, effect}
 use Rattle.rules.specs.Verdicts.{table, step}
 use Rattle.rules.proofs.Answering.{first-past}
+use Rattle.rules.proofs.ByKind.{of-kind, by-clear}
 use Rattle.kinds.specs.Chains.{joinCustomerRules, joinBenchRules, openRules, updateRules, stockRules, lineRules, saleRules, shakenRules, clearRules, compareRules, benchRules, deskRules, topUpRules}
 use Rattle.kinds.specs.Kinds.{joinCustomer, joinBench, openLine, update, stock, benchAuthenticates, deskAuthenticates, knownLine, sell, clear, topUp, numbered, Passed}
 
@@ -23,10 +24,6 @@ or-no false = refl
 answers-alike : (r r′ : List Rule) (new new′ old : List ℕ) → first r ≡ first r′ → new ≡ new′ → answer r new old ≡ answer r′ new′ old
 unfolding answer
 answers-alike r r′ new new′ old p q = rw (p, q)
-
--- the record with another kind in its place
-abbrev of-kind : Entry → ℕ → Entry
-of-kind e k = record { kind = k; bench = e .bench; customer = e .customer; byte3 = e .byte3; amount = e .amount }
 
 module _ (f : Form) (h : Hall) (ts b : List ℕ) where
   -- the table from 4 on
@@ -82,9 +79,13 @@ module _ (f : Form) (h : Hall) (ts b : List ℕ) where
   unfolding later table entryRules first occ changes deskAuthenticates deskRules compareRules
   step-desk-authenticates = of-its-kind (deskAuthenticates h b) 8 (λ e. answers-alike _ _ _ _ b (simp (or-no, leb·suc-zero) refl) refl)
 
-  pub step-clear : (e : Entry) → Passed f h ts b e → e .kind ≡ 9 → step f h ts b e ≡ numbered f h ts b e (clear h b e f ts)
+  pub step-clear : (e : Entry) → Passed f h ts b e → clears (e .kind) ≡ true → step f h ts b e ≡ numbered f h ts b e (clear h b e f ts)
   unfolding later table entryRules first occ changes clear knownLine lineRules shakenRules clearRules
-  step-clear = of-its-kind (λ e. clear h b e f ts) 9 (λ e. answers-alike _ _ _ _ b (simp leb·suc-zero refl) refl)
+  step-clear e p c =
+      by-clear (λ k. e .kind ≡ k → step f h ts b e ≡ numbered f h ts b e (clear h b e f ts))
+      (of-its-kind (λ e. clear h b e f ts) 9 (λ e. answers-alike _ _ _ _ b (simp leb·suc-zero refl) refl) e p)
+      (of-its-kind (λ e. clear h b e f ts) 11 (λ e. answers-alike _ _ _ _ b (simp leb·suc-zero refl) refl) e p)
+      (e .kind) c refl
 
   pub step-top-up : (e : Entry) → Passed f h ts b e → e .kind ≡ 10 → step f h ts b e ≡ numbered f h ts b e (topUp h b e)
   unfolding later table entryRules first occ changes topUp topUpRules

@@ -1,5 +1,5 @@
 -- The table of verdict numbers, from 4 on, one kind at a time: the tests that the kind can meet, over the words that they read.
-use Rattle.rules.specs.Lists.{ℕ, _+_, not, _&&_, _||_, ltb, eqb, List, [], _∷_}
+use Rattle.rules.specs.Lists.{ℕ, _+_, Bool, not, _&&_, _||_, ltb, eqb, List, [], _∷_}
 use Rattle.rules.specs.Hall.{mostHeld, mostSales, mostBudget}
 use Rattle.rules.specs.Answers.{Rule, _⇐_}
 
@@ -28,7 +28,7 @@ updateRules view budget held left n =
 unfoldable pub stockRules : ℕ → ℕ → ℕ → List Rule
 stockRules view left n = (5 ⇐ not (eqb view 1)) ∷ (7 ⇐ ltb mostHeld n) ∷ (10 ⇐ ltb left n) ∷ []
 
--- for a sale or a clear: the words on use of the desk's views of the bench and the customer, and of the line
+-- for a sale or a clear of either kind: the words on use of the desk's views of the bench and the customer, and of the line
 unfoldable pub lineRules : ℕ → ℕ → ℕ → List Rule
 lineRules bench customer line = (5 ⇐ not (eqb bench 1) || not (eqb customer 1)) ∷ (6 ⇐ not (eqb line 1)) ∷ []
 
@@ -37,13 +37,13 @@ unfoldable pub saleRules : ℕ → ℕ → ℕ → ℕ → List Rule
 saleRules carnet line sales n =
     (11 ⇐ ltb carnet n) ∷ (12 ⇐ ltb mostHeld (line + n) || ltb 0 n && eqb sales mostSales) ∷ []
 
--- then, for a clear: the handshake in the desk's view of the bench
+-- then, for a clear of either kind: the handshake in the desk's view of the bench
 unfoldable pub shakenRules : ℕ → List Rule
 shakenRules handshake = (17 ⇐ not (eqb handshake 2)) ∷ []
 
--- and the place of the first dead token, and how many tokens there are
-unfoldable pub clearRules : ℕ → ℕ → List Rule
-clearRules dead n = (15 ⇐ ltb dead n) ∷ []
+-- and, where a whole line is to be cleared, the place of the first dead token, and how many tokens there are
+unfoldable pub clearRules : Bool → ℕ → ℕ → List Rule
+clearRules whole dead n = (15 ⇐ whole && ltb dead n) ∷ []
 
 -- for either authentication: the counts of a till and of the desk's view of the bench, and the first cell of each
 unfoldable pub compareRules : ℕ → ℕ → ℕ → ℕ → List Rule

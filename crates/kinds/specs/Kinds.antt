@@ -8,10 +8,10 @@ use Rattle.rules.specs.Hall.{mostTokens, mostHeld, Carnet, View, BenchView, Til
 use Rattle.rules.specs.Answers.{Rule, first, Answer, answer}
 use Rattle.rules.specs.Records.{words, inUse, amount, count, sales, handshake, cells, made, recordAt}
 use Rattle.rules.specs.Sound.{total, mostTotal}
-use Rattle.rules.specs.Tape.{entryRules}
+use Rattle.rules.specs.Tape.{Clear, is, entryRules}
 use Rattle.rules.specs.Form.{Form}
-use Rattle.rules.specs.Steps.{Change, _≔_, putAll, dealt, left, joining, updating, stocking, selling, authenticating, clearing, toppingUp, theCarnet, theView, theBenchView, theTill, theLine}
-use Rattle.rules.specs.Verdicts.{Stepped, beside, waiting, deadAt, second}
+use Rattle.rules.specs.Steps.{Change, _≔_, putAll, dealt, left, joining, updating, stocking, selling, authenticating, clearing, toppingUp, theCarnet, theView, theBenchView, theTill, theLine, waiting}
+use Rattle.rules.specs.Verdicts.{Stepped, beside, deadAt, second}
 use Rattle.kinds.specs.Chains.{joinCustomerRules, joinBenchRules, openRules, updateRules, stockRules, lineRules, saleRules, shakenRules, clearRules, benchRules, deskRules, topUpRules}
 
 -- the first number that applies; where none does, the changes are made
@@ -60,10 +60,11 @@ module _ (h : Hall) (b : List ℕ) (e : Entry) where
       (knownLine ++ saleRules (count (theCarnet h b e)) (count (theLine h b e)) (sales (theLine h b e)) (e .amount))
       (selling h b e f)
 
+  -- either clear
   unfoldable pub clear : Form → List ℕ → Answer
   clear f ts =
       judged h b
-      ((knownLine ++ shakenRules (handshake (theBenchView h b e))) ++ clearRules (deadAt f h ts b e) (length (waiting f h ts b e)))
+      ((knownLine ++ shakenRules (handshake (theBenchView h b e))) ++ clearRules (is e Clear) (deadAt f h ts b e) (length (waiting h b e f ts)))
       (clearing h b e f ts)
 
   unfoldable pub topUp : Answer

@@ -7,12 +7,13 @@ use lib.ListN.{length-take, length-drop}
 use lib.Seq.{take-nil}
 use Rattle.rules.specs.declared.Hall.{Hall}
 use Rattle.rules.specs.Lists.{ℕ, _+_, true, _&&_, List, [], length, take, every, occ, isIn, allDifferent}
-use Rattle.rules.specs.Hall.{mostHeld, Carnet, View, Till, Line, number, records}
+use Rattle.rules.specs.Hall.{mostHeld, Carnet, View, Till, Line, number, records, spendable}
 use Rattle.rules.specs.Records.{words, inUse, amount, count, sales, held, recordAt, blockAt}
 use Rattle.rules.specs.Sound.{goodList, shaped, deskGood, bare, placeGood, recordGood}
 use Rattle.rules.specs.Steps.{dealt, left, fresh}
 use Rattle.rules.proofs.Tests.{below, parts}
 use Rattle.laws.proofs.Occurrences.{occ-split, different-once, once-different}
+use Rattle.laws.proofs.Sums.{parts-of-sum}
 use Rattle.laws.proofs.Tokens.{every-none, every-more, every-self, take-occ}
 use Rattle.laws.proofs.Blocks.{block-long, block-past}
 use Rattle.laws.proofs.Reflect.{Book}
@@ -72,6 +73,10 @@ module _ (h : Hall) (ts b : List ℕ) (ok : Book h ts b) where
 
   pub line-at : (k : ℕ) → number h (Line 0 0) ≤ k → k < records h → LineGood (recordAt k b)
   line-at k l u = line-facts (recordAt k b) (sym (place-line h ts k (recordAt k b) l) ∙ place-at k u)
+
+  -- two places of carnets and lines have no token in common
+  pub spent-apart : (k j : ℕ) → (k ≡ j → ⊥) → 1 ≤ occ k (spendable h) → 1 ≤ occ j (spendable h) → (t : ℕ) → occ t (held (recordAt k b)) + occ t (held (recordAt j b)) ≤ 1
+  spent-apart k j ne l u t = omega (arith, parts-of-sum (λ i. occ t (held (recordAt i b))) k j (spendable h) ne l u, ok .1 .spent t)
 
   -- ---- a token that isn't dealt stands nowhere; a fresh one isn't dealt
   pub list-different : allDifferent ts ≡ true

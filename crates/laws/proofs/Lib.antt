@@ -25,5 +25,6 @@ pub mod Parts
 -- unbroken runs of the token list; what slips open to; the opened book by its records; the empty book
 pub mod Runs
 pub mod SlipLines
+pub mod EachSlip
 pub mod Opened
 pub mod Empty

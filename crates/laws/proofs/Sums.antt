@@ -1,5 +1,5 @@
 -- Sums over a group of numbers, where one number's share changes.
-use mathlib.Core.Path.{_≡_, refl, sym, ap}
+use mathlib.Core.Path.{_≡_, refl, sym, ap, _∙_}
 use mathlib.Core.Logic.{⊎-elim}
 use Prim.Native.Nat.{_≤_, _<_}
 use native.Mathlib.Omega.{arith}
@@ -21,6 +21,20 @@ part-of-sum f k (j ∷ ks) l =
     (λ (e : k ≡ j). omega (arith, ap f e))
     (λ (e : k ≡ j → ⊥). omega (arith, part-of-sum f k ks (omega (arith, occ-unequal k j ks e))))
     (same k j)
+
+-- two shares are no more than the whole
+pub parts-of-sum : (f : ℕ → ℕ) (k j : ℕ) (ks : List ℕ) → (k ≡ j → ⊥) → 1 ≤ occ k ks → 1 ≤ occ j ks → f k + f j ≤ sumOf f ks
+unfolding sumOf occ
+parts-of-sum f k j [] ne l u = absurd (omega arith)
+parts-of-sum f k j (i ∷ ks) ne l u =
+    ⊎-elim
+    (λ (e : k ≡ i). omega (arith, ap f e, part-of-sum f j ks (omega (arith, occ-unequal j i ks (λ q. ne (e ∙ sym q))))))
+    (λ (n : k ≡ i → ⊥).
+    ⊎-elim
+    (λ (e : j ≡ i). omega (arith, ap f e, part-of-sum f k ks (omega (arith, occ-unequal k i ks n))))
+    (λ (n′ : j ≡ i → ⊥). omega (arith, parts-of-sum f k j ks ne (omega (arith, occ-unequal k i ks n)) (omega (arith, occ-unequal j i ks n′))))
+    (same j i))
+    (same k i)
 
 -- flags of n numbers add up to n at most
 pub sum-flags : (f : ℕ → ℕ) (a n : ℕ) → ((k : ℕ) → a ≤ k → k < a + n → f k ≤ 1) → sumOf f (range a n) ≤ n

@@ -5,8 +5,9 @@ use Prim.Native.Nat.{_≤_, _<_}
 use native.Mathlib.Omega.{arith}
 use lib.Seq.{take-add}
 use borrow.Author.Tests.{eqb-true, ltb-true, lt-ltb, le-ltb}
-use Rattle.rules.specs.Lists.{ℕ, zero, suc, _+_, Bool, true, false, cond, _&&_, ltb, eqb, List, [], _∷_, _++_, length, take, drop, every, occ, isIn, allDifferent, without}
-use Rattle.rules.proofs.Tests.{same, and-left, and-right, and-then, true-and}
+use Rattle.rules.specs.Lists.{ℕ, zero, suc, _+_, Bool, true, false, cond, _&&_, ltb, eqb, List, [], _∷_, _++_, length, take, drop, every, occ, isIn, allDifferent, without, among}
+use Rattle.rules.proofs.Tests.{never, same, and-left, and-right, and-then, true-and}
+use Rattle.rules.proofs.Searching.{among-in, among-out}
 use Rattle.laws.proofs.Occurrences.{occ-equal, occ-unequal, occ-append}
 
 -- ---- a test of each
@@ -141,3 +142,49 @@ without-length (y ∷ ys) xs d e once =
     let z : occ y ys ≡ 0 = eqb-true _ _ (and-left (eqb (occ y ys) 0) _ d) in
     let o : 0 < occ y xs = ltb-true _ _ (and-left (isIn y xs) _ e) in
     omega (arith, once y, without-one y ys xs z, without-length ys xs (and-right (eqb (occ y ys) 0) _ d) (and-right (isIn y xs) _ e) once)
+
+-- what isn't struck stands there as before
+pub without-kept : (t : ℕ) (ys xs : List ℕ) → isIn t ys ≡ false → occ t (without ys xs) ≡ occ t xs
+unfolding without occ
+without-kept t ys [] o = refl
+without-kept t ys (x ∷ xs) o = go (isIn x ys) refl (without-kept t ys xs o)
+  where
+    go : (a : Bool) → isIn x ys ≡ a → occ t (without ys xs) ≡ occ t xs → occ t (cond a (without ys xs) (x ∷ without ys xs)) ≡ occ t (x ∷ xs)
+    go true i e = e ∙ sym (occ-unequal t x xs (λ q. never (isIn x ys) i (ap (λ (n : ℕ). isIn n ys) (sym q) ∙ o)))
+    go false i e = ap (λ (n : ℕ). cond (eqb t x) 1 0 + n) e
+
+pub without-append : (gone xs ys : List ℕ) → without gone (xs ++ ys) ≡ without gone xs ++ without gone ys
+unfolding without
+without-append gone [] ys = refl
+without-append gone (x ∷ xs) ys = rw (without-append gone xs ys) (go (isIn x gone))
+  where
+    go : (t : Bool) → cond t (without gone xs ++ without gone ys) (x ∷ (without gone xs ++ without gone ys)) ≡ cond t (without gone xs) (x ∷ without gone xs) ++ without gone ys
+    go true = refl
+    go false = refl
+
+pub without-apart : (gone xs : List ℕ) → ((t : ℕ) → 1 ≤ occ t xs → occ t gone ≡ 0) → without gone xs ≡ xs
+unfolding without occ
+without-apart gone [] apart = refl
+without-apart gone (x ∷ xs) apart =
+    rw (
+      le-ltb 0 (occ x gone) (omega (arith, apart x (omega (arith, occ-equal x x xs refl)))),
+      without-apart gone xs (λ t l. apart t (omega (arith, l))),
+    )
+
+-- ---- those of xs that stand in ys
+pub among-occ : (t : ℕ) (ys xs : List ℕ) → occ t (among ys xs) ≤ occ t xs
+among-occ t ys xs = go (isIn t ys) refl
+  where
+    go : (i : Bool) → isIn t ys ≡ i → occ t (among ys xs) ≤ occ t xs
+    go true i = omega (arith, among-in t ys xs i)
+    go false o = omega (arith, among-out t ys xs o)
+
+pub among-isIn : (t : ℕ) (ys xs : List ℕ) → isIn t (among ys xs) ≡ true → isIn t xs ≡ true
+among-isIn t ys xs i = lt-ltb 0 (occ t xs) (omega (arith, among-occ t ys xs, ltb-true 0 (occ t (among ys xs)) i))
+
+pub every-among : (ys xs : List ℕ) → every (λ t. isIn t ys) (among ys xs) ≡ true
+every-among ys xs = in-every (λ t. isIn t ys) (among ys xs) (λ x l. go x l (isIn x ys) refl)
+  where
+    go : (x : ℕ) → 1 ≤ occ x (among ys xs) → (i : Bool) → isIn x ys ≡ i → isIn x ys ≡ true
+    go x l true i = i
+    go x l false o = absurd (omega (arith, among-out x ys xs o))

@@ -21,10 +21,14 @@ unfolding makeEmpty
 emptied b e = sym (e .book-after) ∙ e .learnt .cells ∙ answer-granted _ _ _ (sym (e .learnt .number) ∙ e .granted)
 
 -- ---- a run
+pub ran-from : {f : Form} {ts b tape vs ss b′ vs′ ss′ : List ℕ} {n : ℕ} → RunCall f ts b tape vs ss n b′ vs′ ss′
+    → RunGives (run (formOf f) mainHall ts b tape vs ss) n b′ vs′ ss′
+ran-from c =
+    rw (sym (c .form), sym (c .list), sym (c .book), sym (c .tape-lent), sym (c .verdicts), sym (c .seconds), sym (c .answered), sym (c .book-after), sym (c .verdicts-after), sym (c .seconds-after)) (c .learnt)
+
 pub ran : (f : Form) (ts b tape vs ss : List ℕ) (n : ℕ) (b′ vs′ ss′ : List ℕ) → Emptied b → RunCall f ts b tape vs ss n b′ vs′ ss′
     → RunGives (run (formOf f) mainHall ts (emptyBook mainHall) tape vs ss) n b′ vs′ ss′
-ran f ts b tape vs ss n b′ vs′ ss′ e c =
-    rw (sym (c .form), sym (c .list), sym (emptied b e), sym (c .book), sym (c .tape-lent), sym (c .verdicts), sym (c .seconds), sym (c .answered), sym (c .book-after), sym (c .verdicts-after), sym (c .seconds-after)) (c .learnt)
+ran f ts b tape vs ss n b′ vs′ ss′ e c = rw (emptied b e) at (ran-from c)
 
 -- the same tape, and buffers of the same lengths, whatever they held before: the runs answer the same; where they are granted
 -- both numbers of each step are the same; the books agree
@@ -44,7 +48,7 @@ demand-3 ts tape p vs ss s vs′ ss′ n m p′ v x s′ w y good long long′ e
     )
 
 -- ---- steps, one after the other
-stepped : {f : Form} {ts b b′ : List ℕ} {e : Entry} {r : Reply} → StepCall f ts b e r b′ → StepGives (step (formOf f) mainHall ts b e) r b′
+pub stepped : {f : Form} {ts b b′ : List ℕ} {e : Entry} {r : Reply} → StepCall f ts b e r b′ → StepGives (step (formOf f) mainHall ts b e) r b′
 stepped c =
     rw (sym (c .form), sym (c .list), sym (c .book), sym (c .entry), sym (c .answered), sym (c .book-after)) (c .learnt)
 

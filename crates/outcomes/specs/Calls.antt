@@ -61,6 +61,14 @@ pub data StepCalls (f : Form) (ts : List ℕ) : List ℕ → List Entry → List
   more : {b next b′ : List ℕ} {e : Entry} {es : List Entry} {r : Reply} {vs ss : List ℕ}
       → StepCall f ts b e r next → StepCalls f ts next es vs ss b′ → StepCalls f ts b (e ∷ es) (r .verdict ∷ vs) (r .second ∷ ss) b′
 
+-- any number of granted runs and of steps, in any order, each over the book that the one before left
+pub data Worked (f : Form) (ts b : List ℕ) : List ℕ → Type 1 where
+  begun : Worked f ts b b
+  _run-by_ : {next b′ tape vs ss vs′ ss′ : List ℕ} → Worked f ts b next → RunCall f ts next tape vs ss 0 b′ vs′ ss′ → Worked f ts b b′
+  _stepped-by_ : {next b′ : List ℕ} {e : Entry} {r : Reply} → Worked f ts b next → StepCall f ts next e r b′ → Worked f ts b b′
+
+infixl 20 _run-by_
+infixl 20 _stepped-by_
 -- ---- the walk's calls
 -- `filing::read_list` over the bytes of a list on file, with cells for the longest list: it answered n and left the list ts in front
 pub record ListCall (list : List ℕ) (n : ℕ) (ts : List ℕ) : Type 1 where

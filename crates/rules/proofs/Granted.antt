@@ -1,22 +1,22 @@
 -- What a verdict of 0 says: every test of the table is false.
-use mathlib.Core.Path.{_≡_, refl}
+use mathlib.Core.Path.{_≡_, refl, ap}
 use mathlib.Core.Logic.{⊎-elim}
 use Prim.Native.Nat.{_≤_, _<_}
 use native.Mathlib.Omega.{arith}
 use borrow.Author.Tests.{not-false, eqb-true, eqb-false, eq-eqb, le-leb, ltb-true, ltb-false, lt-ltb}
 use Rattle.rules.specs.declared.Hall.{Hall}
 use Rattle.rules.specs.declared.Entry.{Entry}
-use Rattle.rules.specs.Lists.{ℕ, _+_, min, Bool, true, false, not, _&&_, _||_, leb, ltb, eqb, List, every, isIn}
+use Rattle.rules.specs.Lists.{ℕ, _+_, min, Bool, true, false, not, _&&_, _||_, leb, ltb, eqb, List, length, every, isIn}
 use Rattle.rules.specs.Hall.{mostHeld, mostSales, mostBudget}
 use Rattle.rules.specs.Records.{inUse, amount, count, sales, handshake, held, recordAt}
 use Rattle.rules.specs.Sound.{total, mostTotal}
-use Rattle.rules.specs.Tape.{JoinCustomer, JoinBench, OpenLine, Update, Stock, Sell, DeskAuthenticates, Clear, TopUp, kindOf, is, usesBench, usesCustomer, wellFormed, inHall, entryRules}
+use Rattle.rules.specs.Tape.{JoinCustomer, JoinBench, OpenLine, Update, Stock, Sell, DeskAuthenticates, Clear, TopUp, kindOf, is, clears, usesBench, usesCustomer, wellFormed, inHall, entryRules}
 use Rattle.rules.specs.Form.{Form}
-use Rattle.rules.specs.Steps.{left, theCarnet, theView, theBenchView, theTill, theLine, asked}
-use Rattle.rules.specs.Verdicts.{used, waiting, table, verdict}
+use Rattle.rules.specs.Steps.{left, theCarnet, theView, theBenchView, theTill, theLine, asked, living, waiting}
+use Rattle.rules.specs.Verdicts.{used, dropped, table, verdict}
 use Rattle.rules.proofs.Tests.{below, and-false, or-left, or-right, parts}
 use Rattle.rules.proofs.Answering.{testOf, passed}
-use Rattle.rules.proofs.Searching.{all-present}
+use Rattle.rules.proofs.Searching.{all-present, among-all, without-all}
 use Rattle.rules.proofs.ByKind.{IsKind}
 
 -- a number that is used is one of the hall
@@ -55,7 +55,7 @@ module _ (f : Form) (h : Hall) (ts b : List ℕ) (e : Entry) (v : verdict f h ts
   granted-kind = formed-kind e formed
 
   -- 3
-  placed : inHall h e ≡ true
+  pub placed : inHall h e ≡ true
   unfolding table entryRules
   placed = not-false _ (tests 3)
 
@@ -98,7 +98,7 @@ module _ (f : Form) (h : Hall) (ts b : List ℕ) (e : Entry) (v : verdict f h ts
       (or-right (usesBench (e .kind) && not (used (theBenchView h b e))) _ (and-false _ _ absent (le-leb _ _ l))) u))
 
   -- 6
-  pub has-line : is e Sell || is e Clear ≡ true → inUse (theLine h b e) ≡ 1
+  pub has-line : is e Sell || clears (e .kind) ≡ true → inUse (theLine h b e) ≡ 1
   unfolding table entryRules
   has-line k = eqb-true _ _ (not-false _ (and-false _ _ (tests 6) k))
 
@@ -107,11 +107,11 @@ module _ (f : Form) (h : Hall) (ts b : List ℕ) (e : Entry) (v : verdict f h ts
   unfolding table entryRules
   desk-handshake k = eqb-true _ _ (not-false _ (and-false _ _ (or-left _ _ (tests 17)) (eq-eqb _ _ k)))
 
-  pub clear-handshake : e .kind ≡ kindOf Clear → handshake (theBenchView h b e) ≡ 2
+  pub clear-handshake : clears (e .kind) ≡ true → handshake (theBenchView h b e) ≡ 2
   unfolding table entryRules
   clear-handshake k =
       eqb-true _ _ (not-false _ (and-false _ _
-      (or-right (is e DeskAuthenticates && not (eqb (handshake (theBenchView h b e)) 1)) _ (tests 17)) (eq-eqb _ _ k)))
+      (or-right (is e DeskAuthenticates && not (eqb (handshake (theBenchView h b e)) 1)) _ (tests 17)) k))
 
   -- 7
   pub join-budget : e .kind ≡ kindOf JoinCustomer → e .amount ≤ mostBudget
@@ -179,4 +179,11 @@ module _ (f : Form) (h : Hall) (ts b : List ℕ) (e : Entry) (v : verdict f h ts
   -- 15
   pub clear-lives : e .kind ≡ kindOf Clear → every (λ t. isIn t (held (theView h b e))) (f .tokens ts (theLine h b e)) ≡ true
   unfolding table entryRules
-  clear-lives k = all-present _ (waiting f h ts b e) (ltb-false _ _ (and-false _ _ (tests 15) (eq-eqb _ _ k)))
+  clear-lives k = all-present _ (waiting h b e f ts) (ltb-false _ _ (and-false _ _ (tests 15) (eq-eqb _ _ k)))
+
+  -- so a whole line is paid for, and none of it is dropped
+  pub clear-whole : e .kind ≡ kindOf Clear → living h b e f ts ≡ waiting h b e f ts
+  clear-whole k = among-all _ (waiting h b e f ts) (clear-lives k)
+
+  pub clear-drops : e .kind ≡ kindOf Clear → dropped f h ts b e ≡ 0
+  clear-drops k = ap length (without-all _ (waiting h b e f ts) (clear-lives k))

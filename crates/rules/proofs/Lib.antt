@@ -12,6 +12,7 @@ pub mod ByKind
 pub mod Searching
 pub mod Granted
 pub mod Dead
+pub mod TwoClears
 pub mod Named
 pub mod Spent
 pub mod Determined

@@ -41,4 +41,5 @@ module _ (f : Form) (h : Hall) (ts b : List ℕ) (e : Entry) where
         desk-authenticates = (m, (m, tt));
         clear = (c, (m, ((m, c), tt)));
         top-up = (c, tt);
+        clear-living = (c, (m, ((m, c), tt)));
       }

@@ -1,4 +1,5 @@
--- A token's place is the first at which it stands; of some tokens, the first without a place in a list.
+-- A token's place is the first at which it stands; of some tokens, the first without a place in a list, those with one and those
+-- without.
 use mathlib.Core.Path.{_≡_, refl, sym, ap, _∙_}
 use Prim.Native.Nat.{_≤_, _<_}
 use native.Mathlib.Nat.{zero-add}
@@ -6,7 +7,8 @@ use native.Mathlib.Omega.{arith}
 use lib.Dec.{eqb·zero-suc, eqb·suc-suc}
 use lib.Seq.{take-all}
 use borrow.Author.Tests.{eq-eqb, ne-eqb, lt-ltb}
-use Rattle.rules.specs.Lists.{ℕ, suc, _+_, Bool, true, false, cond, not, ltb, eqb, List, [], _∷_, length, take, getD, every, occ, isIn, firstOf, placeOf, firstAbsent}
+use Rattle.rules.specs.Lists.{ℕ, suc, _+_, Bool, true, false, cond, not, ltb, eqb, List, [], _∷_, length, take, getD, every, occ, isIn, without, among, firstOf, placeOf, firstAbsent}
+use Rattle.rules.proofs.Tests.{never, and-left, and-right}
 
 pub place-here : (x : ℕ) (ys : List ℕ) → placeOf x (x ∷ ys) ≡ 0
 unfolding firstOf placeOf
@@ -46,3 +48,56 @@ first-absent ys (x ∷ xs) = rw (nowhere x ys) (go (isIn x ys) refl (first-absen
 
 pub all-present : (ys xs : List ℕ) → length xs ≤ firstAbsent ys xs → every (λ t. isIn t ys) xs ≡ true
 all-present ys xs l = ap (every (λ t. isIn t ys)) (sym (take-all (firstAbsent ys xs) xs l)) ∙ first-absent ys xs .before
+
+-- ---- of xs those that stand in ys, and the others
+pub among-all : (ys xs : List ℕ) → every (λ t. isIn t ys) xs ≡ true → among ys xs ≡ xs
+unfolding among every
+among-all ys [] e = refl
+among-all ys (x ∷ xs) e =
+    rw (and-left (isIn x ys) _ e) (ap (λ (l : List ℕ). x ∷ l) (among-all ys xs (and-right (isIn x ys) _ e)))
+
+pub without-all : (ys xs : List ℕ) → every (λ t. isIn t ys) xs ≡ true → without ys xs ≡ []
+unfolding without every
+without-all ys [] e = refl
+without-all ys (x ∷ xs) e = rw (and-left (isIn x ys) _ e) (without-all ys xs (and-right (isIn x ys) _ e))
+
+pub split-length : (ys xs : List ℕ) → length (among ys xs) + length (without ys xs) ≡ length xs
+unfolding among without
+split-length ys [] = refl
+split-length ys (x ∷ xs) = go (isIn x ys) (split-length ys xs)
+  where
+    go : (i : Bool) → length (among ys xs) + length (without ys xs) ≡ length xs
+        → length (cond i (x ∷ among ys xs) (among ys xs)) + length (cond i (without ys xs) (x ∷ without ys xs)) ≡ suc (length xs)
+    go true e = omega arith
+    go false e = omega arith
+
+-- a token of ys stands among those as often as in xs, and any other not at all
+pub among-in : (t : ℕ) (ys xs : List ℕ) → isIn t ys ≡ true → occ t (among ys xs) ≡ occ t xs
+unfolding among occ
+among-in t ys [] i = refl
+among-in t ys (x ∷ xs) i = go (isIn x ys) refl (among-in t ys xs i)
+  where
+    go : (there : Bool) → isIn x ys ≡ there → occ t (among ys xs) ≡ occ t xs
+        → occ t (cond there (x ∷ among ys xs) (among ys xs)) ≡ cond (eqb t x) 1 0 + occ t xs
+    go true e r = ap (λ (n : ℕ). cond (eqb t x) 1 0 + n) r
+    go false e r = rw (ne-eqb t x (λ q. never (isIn t ys) i (ap (λ (n : ℕ). isIn n ys) q ∙ e))) (omega (arith, r))
+
+pub among-out : (t : ℕ) (ys xs : List ℕ) → isIn t ys ≡ false → occ t (among ys xs) ≡ 0
+unfolding among occ
+among-out t ys [] o = refl
+among-out t ys (x ∷ xs) o = go (isIn x ys) refl (among-out t ys xs o)
+  where
+    go : (there : Bool) → isIn x ys ≡ there → occ t (among ys xs) ≡ 0 → occ t (cond there (x ∷ among ys xs) (among ys xs)) ≡ 0
+    go true e r = rw (ne-eqb t x (λ q. never (isIn x ys) e (ap (λ (n : ℕ). isIn n ys) (sym q) ∙ o))) (omega (arith, r))
+    go false e r = r
+
+-- what is struck from a list goes by the tokens that it has
+without-alike : (g g′ xs : List ℕ) → ((x : ℕ) → 0 < occ x xs → isIn x g ≡ isIn x g′) → without g xs ≡ without g′ xs
+unfolding without occ
+without-alike g g′ [] e = refl
+without-alike g g′ (x ∷ xs) e =
+    rw (e x (rw (eq-eqb x x refl) (omega arith)), without-alike g g′ xs (λ y l. e y (omega (arith, l))))
+
+pub without-among : (ys xs : List ℕ) → without (among ys xs) ys ≡ without xs ys
+without-among ys xs =
+    without-alike (among ys xs) xs ys (λ x l. ap (ltb 0) (among-in x ys xs (lt-ltb 0 (occ x ys) l)))

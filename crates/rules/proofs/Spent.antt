@@ -1,4 +1,4 @@
--- No token is given out again: a dealing goes on where the last one ended, and a clear strikes the line's tokens.
+-- No token is given out again: a dealing goes on where the last one ended, and a clear leaves none of the line's tokens in the view.
 use mathlib.Core.Path.{_≡_, refl, sym, ap, _∙_}
 use Prim.Native.Nat.{_≤_}
 use native.Mathlib.Omega.{arith}
@@ -10,8 +10,9 @@ use Rattle.rules.specs.Lists.{ℕ, _+_, Bool, true, false, cond, List, [
 use Rattle.rules.specs.Hall.{Place, Desk, Carnet, View, BenchView, Till, Line}
 use Rattle.rules.specs.Records.{words, amount, held, made, withWord, blockAt, putBlock}
 use Rattle.rules.specs.Form.{Form}
-use Rattle.rules.specs.Steps.{putAll, dealt, fresh, dealing, settling, clearing, theView, theLine}
+use Rattle.rules.specs.Steps.{putAll, dealt, fresh, dealing, settling, clearing, living, theView, theLine}
 use Rattle.rules.proofs.Stepping.{filled-held}
+use Rattle.rules.proofs.Searching.{without-among}
 use Rattle.rules.proofs.Named.{Each}
 
 -- with the fresh tokens behind those dealt before, so many more are dealt, and the book says so
@@ -49,8 +50,10 @@ Gone t (Line m c) r = Unit {0}
 pub clear-strikes : (f : Form) (h : Hall) (ts b : List ℕ) (e : Entry) (t : ℕ) → isIn t (f .tokens ts (theLine h b e)) ≡ true → Each (Gone t) (clearing h b e f ts)
 unfolding clearing settling made
 clear-strikes f h ts b e t i =
-    let kept : List ℕ = without (f .tokens ts (theLine h b e)) (held (theView h b e)) in (
+    let view : List ℕ = held (theView h b e) in
+    let line : List ℕ = f .tokens ts (theLine h b e) in
+    let kept : List ℕ = without (living h b e f ts) view in (
       ap (isIn t) (filled-held 1 (amount (theView h b e)) (length kept) 0 kept refl)
-          ∙ le-ltb 0 (occ t kept) (omega (arith, struck t (f .tokens ts (theLine h b e)) (held (theView h b e)) i)),
+          ∙ le-ltb 0 (occ t kept) (omega (arith, ap (occ t) (without-among view line), struck t line view i)),
       (tt, (tt, tt)),
     )

@@ -13,9 +13,16 @@ use Rattle.rules.specs.Slips.{openSlip, openSlips, slipTokens, slipPairs
 use Rattle.rules.specs.Tape.{Entry, entryRules}
 use Rattle.rules.specs.Form.{Form, plain}
 use Rattle.rules.specs.Steps.{putAll, theCarnet, theView, theLine, dealing, updating, soldLine, changes, effect}
-use Rattle.rules.specs.Verdicts.{table, verdict, step}
+use Rattle.rules.specs.Verdicts.{Stepped, table, verdict, step}
 use Rattle.rules.proofs.Tests.{same}
 use Rattle.rules.proofs.Answering.{answer-granted, answer-refused, Foremost, first-foremost, numbers, first-listed}
+
+-- steps that answer alike
+pub stepped-alike : {s s′ : Stepped} → s .number ≡ s′ .number → s .second ≡ s′ .second → s .cells ≡ s′ .cells → s ≡ s′
+stepped-alike {s} {s′} p q r =
+    ap (λ (n : ℕ). record { number = n; second = s .second; cells = s .cells }) p
+    ∙ ap (λ (n : ℕ). record { number = s′ .number; second = n; cells = s .cells }) q
+    ∙ ap (λ (x : List ℕ). record { number = s′ .number; second = s′ .second; cells = x }) r
 
 module _ (f : Form) (h : Hall) (ts b : List ℕ) (e : Entry) where
   pub step-granted : step f h ts b e .number ≡ 0 → step f h ts b e .cells ≡ effect f h ts b e

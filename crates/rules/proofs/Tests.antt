@@ -33,6 +33,10 @@ pub and-no : (a : Bool) → a && false ≡ false
 and-no true = refl
 and-no false = refl
 
+pub or-yes : (a : Bool) → a || true ≡ true
+or-yes true = refl
+or-yes false = refl
+
 -- two tests that say the same
 pub alike : (a b : Bool) → (a ≡ true → b ≡ true) → (b ≡ true → a ≡ true) → a ≡ b
 alike true b f g = sym (f refl)
@@ -40,6 +44,10 @@ alike false true f g = g refl
 alike false false f g = refl
 
 -- of a test that fails
+pub fails : (t : Bool) → (t ≡ true → ⊥) → t ≡ false
+fails true n = absurd (n refl)
+fails false n = refl
+
 pub and-false : (a b : Bool) → a && b ≡ false → a ≡ true → b ≡ false
 and-false a b e p = rw p at e
 

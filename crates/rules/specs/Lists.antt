@@ -38,10 +38,14 @@ sameList [] (y ∷ ys) = false
 sameList (x ∷ xs) [] = false
 sameList (x ∷ xs) (y ∷ ys) = eqb x y && sameList xs ys
 
--- the numbers of the second list that don't stand in the first, in their order
+-- the numbers of the second list that don't stand in the first, in their order; those that do
 unfoldable pub without : List ℕ → List ℕ → List ℕ
 without ys [] = []
 without ys (x ∷ xs) = cond (isIn x ys) (without ys xs) (x ∷ without ys xs)
+
+unfoldable pub among : List ℕ → List ℕ → List ℕ
+among ys [] = []
+among ys (x ∷ xs) = cond (isIn x ys) (x ∷ among ys xs) (among ys xs)
 
 -- the place of the first number of which the test holds, or the list's length
 unfoldable pub firstOf : (ℕ → Bool) → List ℕ → ℕ

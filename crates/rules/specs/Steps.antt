@@ -1,5 +1,5 @@
 -- Steps when granted: the records that a step writes, in order, each made from the book before the step.
-use Rattle.rules.specs.Lists.{ℕ, _+_, _-_, min, cond, List, [], _∷_, _++_, length, take, drop, getD, without}
+use Rattle.rules.specs.Lists.{ℕ, _+_, _-_, min, cond, List, [], _∷_, _++_, length, take, drop, getD, without, among}
 use Rattle.rules.specs.Hall.{Hall, Place, Desk, Carnet, View, BenchView, Till, Line, number}
 use Rattle.rules.specs.Records.{amount, count, sales, held, filled, made, withAmount, withHandshake, recordAt, put}
 use Rattle.rules.specs.Tape.{Entry, Update, Stock, is}
@@ -96,9 +96,16 @@ module _ (h : Hall) (b : List ℕ) (e : Entry) where
       ∷ (Line (e .bench) (e .customer) ≔ made 0 0 [])
       ∷ []
 
-  -- the tokens that the line stands for are spent for good
+  -- the tokens that wait in the line; those of them live that stand in the view, and the others are dead
+  abbrev pub waiting : Form → List ℕ → List ℕ
+  waiting f ts = f .tokens ts theLine
+
+  abbrev pub living : Form → List ℕ → List ℕ
+  living f ts = among (held theView) (waiting f ts)
+
+  -- the living are spent for good, and the dead dropped; where a clear of a whole line is granted, none is dead
   unfoldable pub clearing : Form → List ℕ → List Change
-  clearing f ts = settling (f .tokens ts theLine)
+  clearing f ts = settling (living f ts)
 
   -- the budget is raised, and nothing else
   unfoldable pub toppingUp : List Change
@@ -119,6 +126,7 @@ module _ (h : Hall) (b : List ℕ) (e : Entry) where
       ∷ authenticating 2
       ∷ clearing f ts
       ∷ toppingUp
+      ∷ clearing f ts
       ∷ [])
       k []
 

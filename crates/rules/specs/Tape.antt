@@ -21,7 +21,7 @@ eightBytes e = e .kind ∷ e .bench ∷ e .customer ∷ e .byte3 ∷ bytesOf (e 
 
 -- ---- the kinds
 pub data Kind : Type 0 where
-  JoinCustomer JoinBench OpenLine Update Stock Sell BenchAuthenticates DeskAuthenticates Clear TopUp : Kind
+  JoinCustomer JoinBench OpenLine Update Stock Sell BenchAuthenticates DeskAuthenticates Clear TopUp ClearLiving : Kind
 
 abbrev pub kindOf : Kind → ℕ
 kindOf JoinCustomer = 1
@@ -34,20 +34,25 @@ kindOf BenchAuthenticates = 7
 kindOf DeskAuthenticates = 8
 kindOf Clear = 9
 kindOf TopUp = 10
+kindOf ClearLiving = 11
 
 -- they are numbered from 1 to this
 abbrev pub lastKind : ℕ
-lastKind = 10
+lastKind = 11
 
 abbrev pub is : Entry → Kind → Bool
 is e k = eqb (e .kind) (kindOf k)
 
+-- either clear: of a whole line, and of what lives in it
+abbrev pub clears : ℕ → Bool
+clears k = eqb k (kindOf Clear) || eqb k (kindOf ClearLiving)
+
 -- the kinds that use a field
 abbrev pub usesBench : ℕ → Bool
-usesBench k = isIn k (2 ∷ 3 ∷ 5 ∷ 6 ∷ 7 ∷ 8 ∷ 9 ∷ [])
+usesBench k = isIn k (2 ∷ 3 ∷ 5 ∷ 6 ∷ 7 ∷ 8 ∷ 9 ∷ 11 ∷ [])
 
 abbrev pub usesCustomer : ℕ → Bool
-usesCustomer k = isIn k (1 ∷ 3 ∷ 4 ∷ 6 ∷ 9 ∷ 10 ∷ [])
+usesCustomer k = isIn k (1 ∷ 3 ∷ 4 ∷ 6 ∷ 9 ∷ 10 ∷ 11 ∷ [])
 
 abbrev pub usesAmount : ℕ → Bool
 usesAmount k = isIn k (1 ∷ 4 ∷ 5 ∷ 6 ∷ 10 ∷ [])

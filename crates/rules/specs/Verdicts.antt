@@ -1,12 +1,12 @@
 -- Verdict numbers: the table, whose order decides; a step, and the second number that it answers; a run over a whole tape.
-use Rattle.rules.specs.Lists.{_≡_, ℕ, _+_, _*_, Bool, cond, not, _&&_, _||_, leb, ltb, eqb, List, [], _∷_, _++_, length, getD, firstAbsent}
+use Rattle.rules.specs.Lists.{_≡_, ℕ, _+_, _*_, Bool, cond, not, _&&_, _||_, leb, ltb, eqb, List, [], _∷_, _++_, length, getD, without, firstAbsent}
 use Rattle.rules.specs.Hall.{Hall, mostHeld, mostSales, mostBudget}
 use Rattle.rules.specs.Answers.{Rule, _⇐_, first, Answer, answer}
 use Rattle.rules.specs.Records.{inUse, amount, count, sales, handshake, cells, held, recordAt}
 use Rattle.rules.specs.Sound.{total, mostTotal}
-use Rattle.rules.specs.Tape.{Entry, JoinCustomer, JoinBench, OpenLine, Update, Stock, Sell, BenchAuthenticates, DeskAuthenticates, Clear, TopUp, kindOf, is, usesBench, usesCustomer, entryRules, entries}
+use Rattle.rules.specs.Tape.{Entry, JoinCustomer, JoinBench, OpenLine, Update, Stock, Sell, BenchAuthenticates, DeskAuthenticates, Clear, TopUp, ClearLiving, kindOf, is, clears, usesBench, usesCustomer, entryRules, entries}
 use Rattle.rules.specs.Form.{Form}
-use Rattle.rules.specs.Steps.{left, theCarnet, theView, theBenchView, theTill, theLine, asked, effect}
+use Rattle.rules.specs.Steps.{left, theCarnet, theView, theBenchView, theTill, theLine, asked, waiting, effect}
 use Rattle.rules.specs.declared.Reply.{Reply}
 
 abbrev pub used : List ℕ → Bool
@@ -32,12 +32,12 @@ pub record StepGives (s : Stepped) (reply : Reply) (after : List ℕ) : Type 0 w
   pub cells : after ≡ s .cells
 
 module _ (f : Form) (h : Hall) (ts b : List ℕ) (e : Entry) where
-  -- the tokens that the line stands for, and the place among them of the first that the desk's view of the customer lacks
-  abbrev pub waiting : List ℕ
-  waiting = f .tokens ts (theLine h b e)
-
+  -- of the tokens that wait in the line: the place of the first that is dead, and how many are
   abbrev pub deadAt : ℕ
-  deadAt = firstAbsent (held (theView h b e)) waiting
+  deadAt = firstAbsent (held (theView h b e)) (waiting h b e f ts)
+
+  abbrev pub dropped : ℕ
+  dropped = length (without (held (theView h b e)) (waiting h b e f ts))
 
   -- the first of these that applies is the verdict, by its place and not by its number
   -- 2 and 3 are those of the tape record by itself; 10 is an update's and a stock's, since no other asks the list for any
@@ -55,8 +55,8 @@ module _ (f : Form) (h : Hall) (ts b : List ℕ) (e : Entry) where
       ++ (4 ⇐ is e JoinCustomer && used carnet || is e JoinBench && used till || is e OpenLine && used line)
       ∷ (5
       ⇐ leb (kindOf OpenLine) (e .kind) && (usesBench (e .kind) && not (used benchView) || usesCustomer (e .kind) && not (used view)))
-      ∷ (6 ⇐ (is e Sell || is e Clear) && not (used line))
-      ∷ (17 ⇐ is e DeskAuthenticates && not (eqb (handshake benchView) 1) || is e Clear && not (eqb (handshake benchView) 2))
+      ∷ (6 ⇐ (is e Sell || clears (e .kind)) && not (used line))
+      ∷ (17 ⇐ is e DeskAuthenticates && not (eqb (handshake benchView) 1) || clears (e .kind) && not (eqb (handshake benchView) 2))
       ∷ (7
       ⇐ is e JoinCustomer && ltb mostBudget n || is e Stock && ltb mostHeld n || is e TopUp && ltb (mostTotal h at) (total h at + n))
       ∷ (8 ⇐ is e Update && ltb (amount view) n)
@@ -66,15 +66,16 @@ module _ (f : Form) (h : Hall) (ts b : List ℕ) (e : Entry) where
       ∷ (12 ⇐ is e Sell && (ltb mostHeld (count line + n) || ltb 0 n && eqb (sales line) mostSales))
       ∷ (13 ⇐ authenticates e && (eqb (count till) 0 || eqb (count benchView) 0))
       ∷ (14 ⇐ authenticates e && not (eqb (getD (cells till) 0 0) (getD (cells benchView) 0 0)))
-      ∷ (15 ⇐ is e Clear && ltb deadAt (length waiting))
+      ∷ (15 ⇐ is e Clear && ltb deadAt (length (waiting h b e f ts)))
       ∷ []
 
   unfoldable pub verdict : ℕ
   verdict = first table
 
-  -- the second number, beside a verdict v: with a 15 the place of the first dead token, with every other 0
+  -- the second number, beside a verdict v: with a 15 the place of the first dead token; granted, with a clear of what lives, how
+  -- many are dropped; else 0
   unfoldable pub second : ℕ → ℕ
-  second v = cond (eqb v 15) deadAt 0
+  second v = cond (eqb v 15) deadAt (cond (eqb v 0 && is e ClearLiving) dropped 0)
 
   unfoldable pub step : Stepped
   step = beside second (answer table (effect f h ts b e) b)

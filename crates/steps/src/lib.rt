@@ -20,7 +20,7 @@ use rules::Hall;
 use rules::Reply;
 use sound::money;
 
-// A verdict that no second number goes with: every step's but a clear's that meets a dead token.
+// A verdict that no second number goes with: every step's but a clear's.
 pub fn alone(verdict: u8) -> Reply
     ensures { λ r. ⌜ r ≡ alone verdict ⌝ }
 {

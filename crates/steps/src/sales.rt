@@ -1,8 +1,10 @@
-// The two kinds that work on a line, a sale and a clear: one text for both forms of the book.
+// The kinds that work on a line, a sale and the two clears: one text for both forms of the book.
 // Inner, all of them: the step has found the book sound and the record well formed, and calls the function of its kind.
 ghost use mathlib.Core.Path.{_≡_};
+ghost use mathlib.Core.Bool.{true};
 ghost use Prim.Native.Nat.{_≤_};
 ghost use Rattle.rules.specs.Answers.{first, Gives};
+ghost use Rattle.rules.specs.Tape.{clears};
 ghost use Rattle.rules.specs.Verdicts.{StepGives};
 ghost use Rattle.book.specs.Forms.{formOf};
 ghost use Rattle.kinds.specs.Kinds.{sell, clear, numbered, Placed, Passed};
@@ -14,7 +16,7 @@ use rules::Entry;
 use rules::Hall;
 use rules::Reply;
 
-// The numbers of the records that both name: the carnet, the desk's views of customer and bench, the line.
+// The numbers of the records that they name: the carnet, the desk's views of customer and bench, the line.
 struct Spots {
     carnet: usize,
     view: usize,
@@ -66,7 +68,7 @@ fn judge_sale(book: &[u32], at: Spots, n: u32) -> u8
     sale
 }
 
-// For a clear, whether bench, customer and line are known, and then whether bench and desk have shaken hands.
+// For either clear, whether bench, customer and line are known, and then whether bench and desk have shaken hands.
 fn judge_handshake(book: &[u32], at: Spots) -> u8
     requires { ⌜ Stand (now book) at ⌝ }
     ensures { λ r. ⌜ r ≡ first (shakenAt (now (book .entry)) at) ⌝ }
@@ -95,10 +97,11 @@ pub fn sell(form: Form, h: Hall, tokens: &[u32], book: &mut [u32], e: Entry) -> 
     0
 }
 
-// Where the line's tokens all live in the customer's view, they are struck from it, the bench is paid, and its handshake is used
-// up. Else the reply says which is the first that doesn't.
+// Either clear: those of the line's tokens that live in the customer's view are struck from it, the bench is paid for each, and its
+// handshake is used up; the reply says how many were dropped. A whole line with a dead token is refused, and the reply says which
+// is the first.
 pub fn clear(form: Form, h: Hall, tokens: &[u32], book: &mut [u32], e: Entry) -> Reply
-    requires { ⌜ Placed h (now book) e 9 × Passed (formOf form) h (now tokens) (now book) e ⌝ }
+    requires { ⌜ Placed h (now book) e (e .kind) × Passed (formOf form) h (now tokens) (now book) e × (clears (e .kind) ≡ true) ⌝ }
     ensures { λ r. ⌜ StepGives (numbered (formOf form) h (now (tokens .entry)) (now (book .entry)) e (clear h (now (book .entry)) e (formOf form) (now (tokens .entry)))) r (now (book .exit)) ⌝ }
 {
     let at = find(h, e);
@@ -109,13 +112,23 @@ pub fn clear(form: Form, h: Hall, tokens: &[u32], book: &mut [u32], e: Entry) ->
     let line = book::record_at(book, at.line);
     let n = book::count(line) as usize;
     let found = lines::find(form, tokens, line, book::tokens_at(book, at.view));
-    let refused = checks::clear(found.dead, n);
+    let refused = checks::clear(e.kind == 9, found.dead, n);
     if refused != 0 {
         return Reply {
             verdict: refused,
             second: found.dead as u8,
         };
     }
-    changes::settle(book, at.view, at.bench, at.line, found.marks);
-    alone(0)
+    changes::settle(
+        book,
+        at.view,
+        at.bench,
+        at.line,
+        found.marks,
+        found.living as u32,
+    );
+    Reply {
+        verdict: 0,
+        second: (n - found.living) as u8,
+    }
 }

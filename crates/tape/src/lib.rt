@@ -103,6 +103,9 @@ pub fn judge(h: Hall, e: Entry) -> u8
     if kind == 10 {
         return fields(h, e, false, true, true);
     }
+    if kind == 11 {
+        return fields(h, e, true, true, false);
+    }
     2
 }
 

@@ -8,34 +8,40 @@ ghost use Rattle.tokens.specs.Laid.{laid};
 ghost use Rattle.tokens.specs.Marks.{unmarked, found};
 use super::searching;
 
-// Of some tokens: the place of the first that a list doesn't have, or how many they are; and the places of those before it.
+// Of some tokens: the place of the first that a list doesn't have, or how many they are; how many it has; and the places of those.
 pub struct Found {
     pub dead: usize,
+    pub living: usize,
     pub marks: u32,
 }
 
-// Each token's place in a list of few, marked beside the marks there are, up to the first token that has none. A record's tokens are
-// few enough for the bits of a word.
+// Each token's place in a list of few, marked beside the marks there are; a token that has none is passed over. A record's tokens are
+// few enough for the bits of a word. Most tokens have a place, so that those without one are counted.
 pub fn find(list: &[u32], tokens: &[u32], marks: u32) -> Found
     requires { ⌜ length (now list) ≤ mostHeld ⌝ }
     ensures { λ r. ⌜ r ≡ found (now (list .entry)) (now (tokens .entry)) marks ⌝ }
 {
     let n = tokens.len();
+    let mut dead = n;
+    let mut gone = 0;
     let mut all = marks;
     let mut k = 0;
     while k < n {
         let place = searching::first_hit(list, tokens[k]);
-        if place == list.len() {
-            return Found {
-                dead: k,
-                marks: all,
-            };
+        if place < list.len() {
+            all = all | (1 << place);
+        } else {
+            if gone == 0 {
+                dead = k;
+            }
+            gone += 1;
         }
-        all = all | (1 << place);
         k += 1;
     }
+    let living = n - gone;
     Found {
-        dead: n,
+        dead: dead,
+        living: living,
         marks: all,
     }
 }

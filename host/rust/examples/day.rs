@@ -1,5 +1,6 @@
 //! A day with the book: loads a token list and a book, applies a tape, saves the book, and prints what was refused and
-//! the balance of each bench that has joined. With a 15 it prints which token is dead, counted from 0 in the line's tokens.
+//! the balance of each bench that has joined. With a 15 it prints which token is dead, counted from 0 in the line's tokens,
+//! and where dead tokens were dropped how many.
 //!
 //!     day tokens.rec book.rec tape.rec
 //!     day book.rec                            makes an empty book, if there is no file of that name
@@ -55,9 +56,10 @@ fn run(list: &str, filed: &str, tape: &str) -> Done<()> {
     gingerstall::run(Form::Plain, &tokens, &mut book, &tape, &mut verdicts, &mut seconds)?;
     save(filed, &book)?;
     for (step, (verdict, second)) in verdicts.iter().zip(&seconds).enumerate() {
-        match verdict {
-            0 => {}
-            15 => println!("step {step}: refused 15, token {second} is dead"),
+        match (verdict, second) {
+            (0, 0) => {}
+            (0, _) => println!("step {step}: granted, {second} dropped"),
+            (15, _) => println!("step {step}: refused 15, token {second} is dead"),
             _ => println!("step {step}: refused {verdict}"),
         }
     }

@@ -41,7 +41,7 @@ pub enum Form {
 /// A record of a tape by its five fields.
 #[derive(Clone, Copy, Debug, Default, PartialEq, Eq)]
 pub struct Entry {
-    /// Which of the ten kinds, from 1 on.
+    /// Which of the eleven kinds, from 1 on.
     pub kind: u8,
     /// The bench, or 0 where the kind uses none.
     pub bench: u8,
@@ -82,10 +82,15 @@ impl fmt::Display for Refused {
 
 impl error::Error for Refused {}
 
-/// A step's answer has its second number in the high byte; all others are one number.
-fn answered(answer: impl Into<u16>) -> Result<(), Refused> {
-    let [number, second] = answer.into().to_le_bytes();
-    NonZeroU8::new(number).map_or(Ok(()), |number| Err(Refused { number, second }))
+/// A step's answer has its second number in the high byte.
+fn stepped(answer: u16) -> Result<usize, Refused> {
+    let [number, second] = answer.to_le_bytes();
+    NonZeroU8::new(number).map_or(Ok(second.into()), |number| Err(Refused { number, second }))
+}
+
+/// All others are one number.
+fn answered(answer: u8) -> Result<(), Refused> {
+    stepped(answer.into()).map(|_| ())
 }
 
 /// Makes the book empty; 1 if it hasn't [`places::BOOK_WORDS`].
@@ -102,22 +107,24 @@ pub fn is_sound(form: Form, tokens: &[u32], book: &[u32]) -> bool {
     unsafe { asked(tokens.as_ptr(), tokens.len(), book.as_ptr(), book.len()) == 0 }
 }
 
-/// Does one step, or refuses it with 1 to 15 or 17, handshake missing; [`Refused::dead_token`] goes with a 15. It asks first
-/// whether the book is sound, and refuses with 1 if it isn't: for many steps that is dear, and [`run`] asks once.
-pub fn step(form: Form, tokens: &[u32], book: &mut [u32], entry: Entry) -> Result<(), Refused> {
+/// Does one step and answers how many dead tokens it has dropped, which only kind 11, clear what lives, does; or refuses it
+/// with 1 to 15 or 17, handshake missing; [`Refused::dead_token`] goes with a 15. It asks first whether the book is sound,
+/// and refuses with 1 if it isn't: for many steps that is dear, and [`run`] asks once.
+pub fn step(form: Form, tokens: &[u32], book: &mut [u32], entry: Entry) -> Result<usize, Refused> {
     let done = match form {
         Form::Plain => raw::gs_step,
         Form::Slip => raw::gs_slip_step,
     };
     let (list, n, words) = (tokens.as_ptr(), tokens.len(), book.len());
     let Entry { kind, bench, customer, zero, amount } = entry;
-    answered(unsafe { done(list, n, book.as_mut_ptr(), words, kind, bench, customer, zero, amount) })
+    stepped(unsafe { done(list, n, book.as_mut_ptr(), words, kind, bench, customer, zero, amount) })
 }
 
 /// Does the steps of a tape. Refuses with 1 if the book isn't sound over the list, and with 16 unless the tape has
 /// [`places::TAPE_BYTES`] for each verdict and the seconds are as many as these. Otherwise `verdicts[i]` becomes what record
 /// i got, 0 where it was granted, and `seconds[i]` its second number: the place of the dead token with a 15, as
-/// [`Refused::dead_token`] counts it, and 0 with every other verdict.
+/// [`Refused::dead_token`] counts it, how many dead tokens a granted step has dropped, as [`step`] answers it, and 0 with
+/// every other verdict.
 pub fn run(
     form: Form, tokens: &[u32], book: &mut [u32], tape: &[u8], verdicts: &mut [u8], seconds: &mut [u8],
 ) -> Result<(), Refused> {

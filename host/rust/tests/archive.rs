@@ -27,8 +27,8 @@ fn stepped(form: Form) -> Vec<u32> {
     book
 }
 
-fn number(answer: Result<(), Refused>) -> u8 {
-    answer.map_or_else(Refused::number, |()| 0)
+fn number<T>(answer: Result<T, Refused>) -> u8 {
+    answer.map_or_else(Refused::number, |_| 0)
 }
 
 #[test]
@@ -101,7 +101,7 @@ fn a_clear_uses_up_a_handshake() {
 }
 
 #[test]
-fn a_dead_token_is_told() {
+fn a_dead_token_is_told_and_dropped() {
     let clear = entry(9, 2, 5, 0);
     let mut tape = [0; TAPE_BYTES];
     gingerstall::write(clear, &mut tape).unwrap();
@@ -118,6 +118,8 @@ fn a_dead_token_is_told() {
         let (mut verdicts, mut seconds) = ([98], [99]);
         assert_eq!(gingerstall::run(form, &TOKENS, &mut book, &tape, &mut verdicts, &mut seconds), Ok(()));
         assert_eq!((verdicts, seconds), ([15], [2]));
+        assert_eq!(gingerstall::step(form, &TOKENS, &mut book, entry(11, 2, 5, 0)), Ok(3));
+        assert_eq!(book[word(bench_view(2), AMOUNT)], 2);
     }
 }
 

@@ -1,7 +1,7 @@
 -- The records are written in the order of their numbers, so that each still is what it was when the ones before it are written.
 use mathlib.Core.Path.{refl}
 use native.Mathlib.Omega.{arith}
-use Rattle.rules.specs.Records.{amount, count}
+use Rattle.rules.specs.Records.{amount}
 use Rattle.laws.proofs.Books.{held-few}
 use Rattle.changes.proofs.Written.{written, changed-twice, later-stays, unmarked-few}
 use borrow.Author.Needs.{needs}
@@ -14,14 +14,11 @@ word-of-requires c κs = search needs
 word-of-requires-2 : tie.Need-word-of-requires-2
 word-of-requires-2 c κs = search needs
 
-word-of-requires-3 : tie.Need-word-of-requires-3
-word-of-requires-3 c κs = search needs
-
 strike-requires : tie.Need-strike-requires
 strike-requires c κs = search needs
 
 add-set-word : tie.Need-add-set-word
-unfolding amount count
+unfolding amount
 add-set-word c = search needs
 
 set-word-requires : tie.Need-set-word-requires
@@ -52,20 +49,19 @@ abbrev at-set-word2 : tie.After-slice-known5 → tie.After-set-word2
 at-set-word2 c = c .before .before .before .before .before .before .before
 
 returns : tie.Need-returns
-unfolding amount count
+unfolding amount
 returns c =
     let reset = at-set-word2 c in
     let paid = at-set-word reset in
     let struck = at-strike paid in
-    let counted = struck .before .before in
-    let balanced = counted .before .before in
+    let balanced = struck .before .before in
     let read = balanced .before .before in
     let start = begun read in
     let stays =
     later-stays _ (start .args .bench) _ _ _ _ _ (struck .strike .ensures) (omega arith)
     (unmarked-few (start .args .marks) _ (held-few (start .args .view) (start .args .book .now))) (start .pre .views-apart) in
     written _ _ _ _ _ _ _ _ _ (c .before .before .put-made .ensures) refl refl
-    (changed-twice _ _ _ _ _ _ _ _ _ _ _ (reset .set-word2 .ensures) (paid .set-word .ensures) (omega (arith, struck .strike .kept)) (omega (arith, balanced .word-of2 .ensures, counted .word-of3 .ensures)) stays
+    (changed-twice _ _ _ _ _ _ _ _ _ _ _ (reset .set-word2 .ensures) (paid .set-word .ensures) (omega (arith, struck .strike .kept)) (omega (arith, balanced .word-of2 .ensures)) stays
     (written _ _ _ _ _ _ _ _ _ (struck .strike .ensures) (read .word-of .ensures) refl refl))
 
 pub settle-spec : {M : Type 1} → statement M
@@ -74,7 +70,6 @@ settle-spec =
     (tie.spec
     word-of-requires
     word-of-requires-2
-    word-of-requires-3
     strike-requires
     add-set-word
     set-word-requires

@@ -1,4 +1,7 @@
--- A clear by itself, and every other kind with no second number beside its verdict.
+-- A clear of either kind by itself, and every other kind with no second number beside its verdict.
+use mathlib.Core.Path.{_≡_, refl, sym, _∙_}
+use Rattle.rules.specs.Lists.{true}
+use Rattle.rules.specs.Tape.{clears}
 use Rattle.steps.proofs.Answered.{as-alone}
 use Rattle.steps.proofs.sales.Stood.{works}
 use Rattle.kinds.proofs.Table.{step-clear}
@@ -15,10 +18,16 @@ let-pass s = passed _ _ _ _ _ (works (s .args .form)) (s .pre .0) (s .pre .1)
 abbrev begun : tie.Then1 → tie.Start
 begun c = c .before .before .before .before
 
+told : (c : tie.Then1) → clears (begun c .args .e .kind) ≡ true
+told c = sym (c .before .is-clear .ensures) ∙ c .if1 .taken
+
+is-clear-requires : tie.Need-is-clear-requires
+is-clear-requires c κs = search needs
+
 clear-requires : tie.Need-clear-requires
 clear-requires c κs =
     let s = begun (c .before) in
-    (placed (formOf (s .args .form)) _ (s .args .tokens .now) _ _ (works (s .args .form)) (s .pre .0) (s .pre .1) 9 (c .before .if1 .taken), let-pass s)
+    (placed (formOf (s .args .form)) _ (s .args .tokens .now) _ _ (works (s .args .form)) (s .pre .0) (s .pre .1) _ refl, let-pass s, told (c .before))
 
 same-length : tie.Need-same-length
 same-length c = search needs
@@ -29,10 +38,13 @@ at-then1 c = c .before .before .before .before
 returns : tie.Need-returns
 returns c =
     let s = begun (at-then1 c) in
-    as-step _ _ _ _ _ (step-clear _ _ _ _ _ (let-pass s) (at-then1 c .if1 .taken)) (c .before .before .clear .ensures)
+    as-step _ _ _ _ _ (step-clear _ _ _ _ _ (let-pass s) (told (at-then1 c))) (c .before .before .clear .ensures)
 
 step-other-requires : tie.Need-step-other-requires
-step-other-requires c κs = search needs
+step-other-requires c κs =
+    let other = c .before in
+    let s = other .before .before .before .before in
+    (s .pre .0, s .pre .1, sym (other .before .is-clear .ensures) ∙ other .if1 .left)
 
 alone-requires : tie.Need-alone-requires
 alone-requires c κs = search needs
@@ -47,6 +59,7 @@ pub step-kind-spec : {M : Type 1} → statement M
 step-kind-spec =
     tie.close
     (tie.spec
+    is-clear-requires
     clear-requires
     same-length
     returns

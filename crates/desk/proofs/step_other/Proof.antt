@@ -198,7 +198,7 @@ kind c =
       sell = at-else6 c .if6 .left;
       bench-authenticates = c .before .before .if7 .left;
       desk-authenticates = c .if8 .left;
-      clear = s .pre .2;
+      clears-none = s .pre .2;
     }
 
 top-up-requires : tie.Need-top-up-requires

@@ -1,4 +1,4 @@
--- Each kind is cited with what it uses, which the rules' lists give; where none of the ten is found, it is no kind.
+-- Each kind is cited with what it uses, which the rules' lists give; where none of the eleven is found, it is no kind.
 use mathlib.Core.Path.{refl}
 use borrow.Author.Needs.{needs}
 use Rattle.rules.specs.Lists.{occ}
@@ -76,9 +76,17 @@ returns-10 : tie.Need-returns-10
 unfolding occ
 returns-10 c = of-kind _ _ 10 _ refl refl (c .before .if10 .taken) (c .fields10 .ensures)
 
+fields-requires-11 : tie.Need-fields-requires-11
+fields-requires-11 c κs = search needs
+
 returns-11 : tie.Need-returns-11
-returns-11 c =
-    let k9 = c .before in
+unfolding occ
+returns-11 c = of-kind _ _ 11 _ refl refl (c .before .if11 .taken) (c .fields11 .ensures)
+
+returns-12 : tie.Need-returns-12
+returns-12 c =
+    let k10 = c .before in
+    let k9 = k10 .before in
     let k8 = k9 .before in
     let k7 = k8 .before in
     let k6 = k7 .before in
@@ -97,7 +105,8 @@ returns-11 c =
       bench-authenticates = k7 .if7 .left;
       desk-authenticates = k8 .if8 .left;
       clear = k9 .if9 .left;
-      top-up = c .if10 .left;
+      top-up = k10 .if10 .left;
+      clear-living = c .if11 .left;
     }
 
 pub judge-spec : {M : Type 1} → statement M
@@ -124,4 +133,6 @@ judge-spec =
     returns-9
     fields-requires-10
     returns-10
-    returns-11)
+    fields-requires-11
+    returns-11
+    returns-12)

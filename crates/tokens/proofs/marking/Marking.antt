@@ -1,53 +1,18 @@
--- Tokens marked one after the other; and what the marks of all of them come to, in a list that has no token twice.
+-- What the marks of tokens come to, in a list that has no token twice: what isn't marked is the list without them.
 use mathlib.Core.Path.{_≡_, refl, sym, ap, ap₂, _∙_}
 use mathlib.Core.List.{append-nil}
 use mathlib.Core.Logic.{⊎-elim}
-use Prim.Native.Nat.{_≤_, _<_, _^_, max}
-use native.Mathlib.Nat.{one-mul, pow-suc}
+use Prim.Native.Nat.{_<_, _^_, max}
+use native.Mathlib.Nat.{pow-suc}
 use native.Mathlib.Omega.{arith}
 use lib.Arith.{digits-div, digits-mod}
 use lib.Bits.{bitOr, or-step, or-zero-r}
-use lib.ListN.{drop-of-length-le}
-use lib.Pow.{shl-exact}
-use borrow.Author.Tests.{eqb-true, eqb-false, eq-eqb, ne-eqb, lt-ltb}
-use Rattle.rules.specs.Lists.{ℕ, suc, _+_, _*_, _%_, Bool, true, false, cond, ltb, eqb, List, [], _∷_, _++_, length, drop, getD, occ, isIn, allDifferent, without, firstOf, placeOf, firstAbsent}
-use Rattle.rules.specs.Hall.{mostHeld}
+use borrow.Author.Tests.{ltb-false, eqb-true, eqb-false, not-true, eq-eqb, ne-eqb, lt-ltb}
+use Rattle.rules.specs.Lists.{ℕ, suc, _+_, _*_, Bool, true, false, cond, ltb, eqb, List, [], _∷_, _++_, length, occ, isIn, allDifferent, without, firstOf, placeOf}
+use Rattle.rules.proofs.Searching.{nowhere}
 use Rattle.rules.proofs.Tests.{same, and-left, and-right}
-use Rattle.laws.proofs.Loops.{list-next}
 use Rattle.laws.proofs.Occurrences.{occ-equal, occ-unequal, occ-append}
-use Rattle.laws.proofs.Runs.{place-le}
-use Rattle.tokens.specs.declared.marking.Found.{Found}
-use Rattle.tokens.specs.Marks.{unmarked, marked, found}
-
-pub found-is : (list ts : List ℕ) (m d all : ℕ) → d ≡ firstAbsent list ts → all ≡ marked list ts m → record { dead = d; marks = all } ≡ found list ts m
-found-is list ts m d all p q = ap₂ (λ (x y : ℕ). record { dead = x; marks = y }) p q
-
--- a token that is found in a list of few has a bit
-pub bit-small : (list : List ℕ) (t p : ℕ) → p ≡ placeOf t list → (p ≡ length list → ⊥) → length list ≤ mostHeld → p < 32
-bit-small list t p e ne few = omega (arith, e, ne, few, place-le t list)
-
--- ---- one token after the other
-module _ (list ts : List ℕ) (k all m : ℕ) (inv : marked list (drop k ts) all ≡ m) where
-  pub marked-end : length ts ≤ k → all ≡ m
-  unfolding marked
-  marked-end l = sym (ap (λ (x : List ℕ). marked list x all) (drop-of-length-le ts l)) ∙ inv
-
-  module _ (l : k < length ts) where
-    next : marked list (getD ts k 0 ∷ drop (k + 1) ts) all ≡ m
-    next = sym (ap (λ (x : List ℕ). marked list x all) (list-next ts k l)) ∙ inv
-
-    pub marked-dead : placeOf (getD ts k 0) list ≡ length list → all ≡ m
-    unfolding marked
-    marked-dead e = rw (eq-eqb _ _ e) at next
-
-    -- the bit as it is computed
-    pub marked-live : (p : ℕ) → p ≡ placeOf (getD ts k 0) list → (p ≡ length list → ⊥) → p < 32
-        → marked list (drop (k + 1) ts) (bitOr all (1 * 2 ^ p % 4294967296)) ≡ m
-    unfolding marked
-    marked-live p e ne small =
-        let bit : 1 * 2 ^ p % 4294967296 ≡ 2 ^ p = shl-exact 1 p 32 (omega arith) (omega arith) ∙ one-mul (2 ^ p) in
-        ap (λ (x : ℕ). marked list (drop (k + 1) ts) (bitOr all x)) (bit ∙ ap (λ (x : ℕ). 2 ^ x) e)
-        ∙ (rw (ne-eqb (placeOf (getD ts k 0) list) (length list) (λ q. ne (e ∙ q))) at next)
+use Rattle.tokens.specs.Marks.{unmarked, marked}
 
 -- ---- what isn't marked is without what is gone
 -- the marks of the tokens that stand among others
@@ -69,7 +34,7 @@ unmarked-without gone (x ∷ xs) =
     go true = refl
     go false = refl
 
--- ---- the marks of tokens, all of which a list has, where it has none twice
+-- ---- the marks of tokens, in a list that has none twice
 marks-none : (xs : List ℕ) → marksOf [] xs ≡ 0
 unfolding marksOf occ
 marks-none [] = refl
@@ -118,65 +83,19 @@ marks-more t gone (x ∷ xs) d there =
     (or-double (marksOf gone xs) (cond (isIn x gone) 1 0) (2 ^ placeOf t xs) (bit-small-one (isIn x gone))))
     (same t x)
 
-marks-beside : (list : List ℕ) → allDifferent list ≡ true → (ts gone : List ℕ) → firstAbsent list ts ≡ length ts → marked list ts (marksOf gone list) ≡ marksOf (ts ++ gone) list
-unfolding marked firstAbsent firstOf occ
-marks-beside list d [] gone e = refl
-marks-beside list d (t ∷ ts) gone e = go (eqb (placeOf t list) (length list)) refl (marks-beside list d ts (t ∷ gone)) e
+marks-beside : (list : List ℕ) → allDifferent list ≡ true → (ts gone : List ℕ) → marked list ts (marksOf gone list) ≡ marksOf (ts ++ gone) list
+unfolding marked occ
+marks-beside list d [] gone = refl
+marks-beside list d (t ∷ ts) gone =
+    ap (marked list ts) (go (eqb (placeOf t list) (length list)) refl)
+    ∙ marks-beside list d ts (t ∷ gone)
+    ∙ marks-same (ts ++ (t ∷ gone)) (t ∷ (ts ++ gone)) list (λ x. omega (arith, occ-append x ts (t ∷ gone), occ-append x ts gone))
   where
-    go : (hit : Bool) → eqb (placeOf t list) (length list) ≡ hit → (firstAbsent list ts ≡ length ts → marked list ts (marksOf (t ∷ gone) list) ≡ marksOf (ts ++ (t ∷ gone)) list)
-        → cond hit 0 (suc (firstAbsent list ts)) ≡ suc (length ts)
-        → cond hit (marksOf gone list) (marked list ts (bitOr (marksOf gone list) (2 ^ placeOf t list))) ≡ marksOf (t ∷ (ts ++ gone)) list
-    go true h r e = absurd (omega arith)
-    go false h r e =
-        ap (marked list ts) (marks-more t gone list d (eqb-false _ _ h))
-        ∙ r (omega arith)
-        ∙ marks-same (ts ++ (t ∷ gone)) (t ∷ (ts ++ gone)) list (λ x. omega (arith, occ-append x ts (t ∷ gone), occ-append x ts gone))
+    go : (absent : Bool) → eqb (placeOf t list) (length list) ≡ absent → cond absent (marksOf gone list) (bitOr (marksOf gone list) (2 ^ placeOf t list)) ≡ marksOf (t ∷ gone) list
+    go true e = sym (marks-absent t gone list (omega (arith, ltb-false 0 (occ t list) (not-true _ (sym (nowhere t list) ∙ e)))))
+    go false e = marks-more t gone list d (eqb-false _ _ e)
 
--- all of them, from no marks on
-pub marked-all : (list : List ℕ) → allDifferent list ≡ true → (ts : List ℕ) → firstAbsent list ts ≡ length ts → marked list ts 0 ≡ marksOf ts list
-marked-all list d ts e =
-    ap (marked list ts) (sym (marks-none list)) ∙ marks-beside list d ts [] e ∙ ap (λ (x : List ℕ). marksOf x list) (append-nil ts)
-
--- ---- tokens in two parts: the second is looked at where the first has no dead token
-pub absent-le : (list ts : List ℕ) → firstAbsent list ts ≤ length ts
-unfolding firstAbsent firstOf
-absent-le list [] = omega arith
-absent-le list (t ∷ ts) = go (eqb (placeOf t list) (length list)) (absent-le list ts)
-  where
-    go : (hit : Bool) → firstAbsent list ts ≤ length ts → cond hit 0 (suc (firstAbsent list ts)) ≤ suc (length ts)
-    go true l = omega arith
-    go false l = omega arith
-
--- what is found behind d tokens that live
-abbrev pub after : ℕ → Found → Found
-after d f = record { dead = d + f .dead; marks = f .marks }
-
-one-more : (f g : Found) → f ≡ g → _≡_ {A = Found} record { dead = suc (f .dead); marks = f .marks } record { dead = suc (g .dead); marks = g .marks }
-one-more f g e = ap (λ (x : Found). record { dead = suc (x .dead); marks = x .marks }) e
-
-module _ (list : List ℕ) where
-  pub found-dead : (xs ys : List ℕ) (m : ℕ) → firstAbsent list xs < length xs → found list (xs ++ ys) m ≡ found list xs m
-  unfolding firstAbsent firstOf marked
-  found-dead [] ys m l = absurd (omega arith)
-  found-dead (x ∷ xs) ys m l = go (eqb (placeOf x list) (length list)) (found-dead xs ys (bitOr m (2 ^ placeOf x list))) l
-    where
-      go : (hit : Bool) → (firstAbsent list xs < length xs → found list (xs ++ ys) (bitOr m (2 ^ placeOf x list)) ≡ found list xs (bitOr m (2 ^ placeOf x list)))
-          → cond hit 0 (suc (firstAbsent list xs)) < suc (length xs)
-          → _≡_ {A = Found}
-          record { dead = cond hit 0 (suc (firstAbsent list (xs ++ ys))); marks = cond hit m (marked list (xs ++ ys) (bitOr m (2 ^ placeOf x list))) }
-          record { dead = cond hit 0 (suc (firstAbsent list xs)); marks = cond hit m (marked list xs (bitOr m (2 ^ placeOf x list))) }
-      go true r l = refl
-      go false r l = one-more _ _ (r (omega arith))
-
-  pub found-live : (xs ys : List ℕ) (m : ℕ) → firstAbsent list xs ≡ length xs → found list (xs ++ ys) m ≡ after (length xs) (found list ys (marked list xs m))
-  unfolding firstAbsent firstOf marked
-  found-live [] ys m e = ap (λ (x : ℕ). record { dead = x; marks = marked list ys m }) (omega arith)
-  found-live (x ∷ xs) ys m e = go (eqb (placeOf x list) (length list)) (found-live xs ys (bitOr m (2 ^ placeOf x list))) e
-    where
-      go : (hit : Bool) → (firstAbsent list xs ≡ length xs → found list (xs ++ ys) (bitOr m (2 ^ placeOf x list)) ≡ after (length xs) (found list ys (marked list xs (bitOr m (2 ^ placeOf x list)))))
-          → cond hit 0 (suc (firstAbsent list xs)) ≡ suc (length xs)
-          → _≡_ {A = Found}
-          record { dead = cond hit 0 (suc (firstAbsent list (xs ++ ys))); marks = cond hit m (marked list (xs ++ ys) (bitOr m (2 ^ placeOf x list))) }
-          (after (suc (length xs)) (found list ys (cond hit m (marked list xs (bitOr m (2 ^ placeOf x list))))))
-      go true r e = absurd (omega arith)
-      go false r e = one-more _ _ (r (omega arith)) ∙ ap (λ (d : ℕ). record { dead = d; marks = marked list ys (marked list xs (bitOr m (2 ^ placeOf x list))) }) (omega arith)
+-- those of all of them, from no marks on
+pub marked-all : (list : List ℕ) → allDifferent list ≡ true → (ts : List ℕ) → marked list ts 0 ≡ marksOf ts list
+marked-all list d ts =
+    ap (marked list ts) (sym (marks-none list)) ∙ marks-beside list d ts [] ∙ ap (λ (x : List ℕ). marksOf x list) (append-nil ts)

@@ -1,19 +1,23 @@
--- What is found in all of the slips is found in those that are left.
-use Prim.Native.Nat.{_+_, _-_, _*_}
+-- What was found of the tokens of the first slips, one slip after the other.
+use mathlib.Core.Logic.{⊎-elim}
+use Prim.Native.Nat.{_+_, _-_, _*_, _≤_}
 use native.Mathlib.Omega.{arith}
-use Rattle.changes.proofs.lines.Seeking.{Seeking, seeking-all, seeking-end, seeking-few, seeking-dead, seeking-live}
+use lib.ListN.{length}
+use Rattle.rules.specs.Hall.{mostHeld}
+use Rattle.tokens.proofs.marking.Finding.{where-equal, where-unequal}
+use Rattle.changes.proofs.lines.Seeking.{SlipsSeen, slips-none, slips-end, slips-few, slips-more}
 use borrow.Author.Needs.{needs}
 use Rattle.changes.proofs.lines.find_slips.Statement.{statement}
 use Rattle.changes.proofs.lines.find_slips.Tie as tie
 
 abbrev Inv-loop : tie.InvT-loop
-Inv-loop list left pairs view dead₀ marks₀ i₀ dead marks i = Seeking list left pairs view dead marks i
+Inv-loop list left pairs view dead₀ living₀ seen₀ marks₀ i₀ dead living seen marks i = SlipsSeen list left pairs view seen dead living marks i
 
 abbrev μ-loop : tie.MeasureT-loop
-μ-loop list left pairs view dead₀ marks₀ i₀ dead marks i = left - i
+μ-loop list left pairs view dead₀ living₀ seen₀ marks₀ i₀ dead living seen marks i = left - i
 
 loop-holds : tie.Need-loop-holds Inv-loop μ-loop
-loop-holds c = seeking-all _ _ _ _
+loop-holds c = slips-none _ _ _ _
 
 mul-slip-part : tie.Need-mul-slip-part Inv-loop μ-loop
 mul-slip-part c = search needs
@@ -54,12 +58,21 @@ looped c = in-loop c .before
 abbrev begun : tie.At-loop Inv-loop μ-loop → tie.Start Inv-loop μ-loop
 begun c = c .before .before .before .before
 
+-- all sums are of tokens that the line stands for
+few : (c : tie.After-find Inv-loop μ-loop) → let l = looped c .loop in let here = c .find .result in
+    (l .seen + length (c .before .slip-part .result .now) ≤ mostHeld) × (l .dead + here .dead ≤ mostHeld) × (l .living + here .living ≤ mostHeld)
+few c =
+    let sums = slips-few _ _ _ _ (looped c .loop .inv) (in-loop c .loop-test .taken) _ (c .before .slip-part .ensures) (c .find .ensures) in
+    let short = begun (looped c) .pre .1 in (omega (arith, sums .0, short), omega (arith, sums .1, short), omega (arith, sums .2, short))
+
 add-dead : tie.Need-add-dead Inv-loop μ-loop
-add-dead c =
-    let sought = c .before in
-    let l = looped sought in
-    let few = seeking-few _ _ _ _ _ _ _ (l .loop .inv) (in-loop sought .loop-test .taken) _ (sought .before .slip-part .ensures) _ (sought .find .ensures) in
-    omega (arith, few, begun l .pre .1)
+add-dead c = omega (arith, few (c .before .before))
+
+add-seen : tie.Need-add-seen Inv-loop μ-loop
+add-seen c = omega (arith, few (c .before))
+
+add-living : tie.Need-add-living Inv-loop μ-loop
+add-living c = omega (arith, few (c .before .before))
 
 add-i : tie.Need-add-i Inv-loop μ-loop
 add-i c = search needs
@@ -69,16 +82,12 @@ loop-less c = search needs
 
 loop-again : tie.Need-loop-again Inv-loop μ-loop
 loop-again c =
-    let sought = c .before .before .before in
-    seeking-live _ _ _ _ _ _ _ (looped sought .loop .inv) (in-loop sought .loop-test .taken) _ (sought .before .slip-part .ensures) _ (sought .find .ensures) (c .if1 .left)
+    let here = c .before .before in
+    let on = ⊎-elim (λ w. where-equal _ _ (w .0 .taken) (w .2)) (λ w. where-unequal _ _ (w .0 .left) (w .1)) (c .before .if1 .came) in
+    slips-more _ _ _ _ (looped here .loop .inv) (in-loop here .loop-test .taken) _ (here .before .slip-part .ensures) (here .find .ensures) _ on
 
 returns : tie.Need-returns Inv-loop μ-loop
-returns c = seeking-end _ _ _ _ _ _ _ (c .before .loop .inv) (c .loop-test .left)
-
-returns-2 : tie.Need-returns-2 Inv-loop μ-loop
-returns-2 c =
-    let sought = c .before .before .before in
-    seeking-dead _ _ _ _ _ _ _ (looped sought .loop .inv) (in-loop sought .loop-test .taken) _ (sought .before .slip-part .ensures) _ (sought .find .ensures) (c .if1 .taken)
+returns c = slips-end _ _ _ _ (c .before .loop .inv) (c .loop-test .left)
 
 pub find-slips-spec : {M : Type 1} → statement M
 find-slips-spec =
@@ -98,8 +107,9 @@ find-slips-spec =
     slip-part-requires
     find-requires
     add-dead
+    add-seen
+    add-living
     add-i
     loop-less
     loop-again
-    returns
-    returns-2)
+    returns)

@@ -1,15 +1,17 @@
--- The line's tokens are found in the view and judged; where all of them live they are struck by their marks.
+-- The line's tokens are found in the view and judged; those that live are struck by their marks, and paid for.
 use mathlib.Core.Path.{_≡_, refl}
+use Prim.Native.Nat.{_≤_}
 use native.Mathlib.Omega.{arith}
-use Rattle.rules.specs.Lists.{occ}
+use Rattle.rules.specs.Hall.{mostHeld}
 use Rattle.rules.specs.Answers.{first}
 use Rattle.book.specs.Forms.{formOf}
-use Rattle.rules.proofs.Dead.{told-none, told-dead}
+use Rattle.rules.proofs.ByKind.{clears-bench, clears-customer}
+use Rattle.rules.proofs.Dead.{told-none, told-dead, told-cleared}
 use Rattle.kinds.specs.Kinds.{clear}
 use Rattle.steps.proofs.Answered.{refused, granted, as-alone}
 use Rattle.steps.proofs.sales.Stood.{Case, called, all-stand}
 use Rattle.steps.proofs.sales.Chained.{shaken-lives}
-use Rattle.steps.proofs.sales.Cleared.{Seen, clearChain, refused-dead, line-long, line-fit, seen-few, shaken-refused, dead-is, clear-number, clear-written, account}
+use Rattle.steps.proofs.sales.Cleared.{Seen, clearChain, refused-dead, line-long, line-fit, seen-few, living-few, shaken-refused, dead-is, dropped-is, none-dropped, clear-number, clear-written, account}
 use borrow.Author.Needs.{needs}
 use Rattle.steps.proofs.sales.clear.Statement.{statement}
 use Rattle.steps.proofs.sales.clear.Tie as tie
@@ -20,9 +22,11 @@ find-requires c κs = search needs
 abbrev begun : tie.After-find → tie.Start
 begun c = c .before .before .before
 
-case : (c : tie.After-find) → let s = begun c .args in Case (formOf (s .form)) (s .h) (s .tokens .now) (s .book .now) (s .e) 9 (c .find .result)
-unfolding occ
-case c = called (begun c .args .form) (begun c .pre) refl refl (c .find .ensures)
+case : (c : tie.After-find) → let s = begun c .args in Case (formOf (s .form)) (s .h) (s .tokens .now) (s .book .now) (s .e) (s .e .kind) (c .find .result)
+case c =
+    let s = begun c in
+    let kind = s .args .e .kind in
+    called (s .args .form) (s .pre .0, s .pre .1) (clears-bench kind (s .pre .2)) (clears-customer kind (s .pre .2)) (c .find .ensures)
 
 judge-handshake-requires : tie.Need-judge-handshake-requires
 judge-handshake-requires c κs = all-stand (case (c .before))
@@ -44,7 +48,7 @@ returns c =
     as-alone (c .alone .ensures)
     (told-none _ _ _ _ _
     (refused _ _ _ _ (shaken-refused (case (at-find (told .before))) _ known (told .if1 .taken)) (told .if1 .taken))
-    (shaken-lives _ _ _ known))
+    (told .if1 .taken) (shaken-lives _ _ _ known))
 
 record-at-requires : tie.Need-record-at-requires
 record-at-requires c κs = all-stand (case (at-find (c .before .before))) .line
@@ -81,15 +85,19 @@ seen : (c : tie.After-find2) → let s = begun (found-at c) .args in
     Seen (formOf (s .form)) (s .tokens .now) (s .book .now) (found-at c .find .result) (at-record-at c .record-at .result .now) (c .before .tokens-at .result .now) (c .before .before .count .result) (c .find2 .result)
 seen c = record { line = at-record-at c .record-at .ensures; many = c .before .before .count .ensures; view = c .before .tokens-at .ensures; result = c .find2 .ensures }
 
-number : (c : tie.After-clear) → let s = begun (found-at (c .before)) .args in c .clear .result ≡ first (clearChain (formOf (s .form)) (s .h) (s .tokens .now) (s .book .now) (s .e))
+abbrev at-find2 : tie.After-clear → tie.After-find2
+at-find2 c = c .before .before
+
+number : (c : tie.After-clear) → let s = begun (found-at (at-find2 c)) .args in c .clear .result ≡ first (clearChain (formOf (s .form)) (s .h) (s .tokens .now) (s .book .now) (s .e))
 number c =
-    let judged = at-judge-handshake (at-record-at (c .before)) in
-    clear-number (case (found-at (c .before))) (seen (c .before)) _ _ (judged .judge-handshake .ensures) (at-record-at (c .before) .before .before .if1 .left) (c .clear .ensures)
+    let sought = at-find2 c in
+    let judged = at-judge-handshake (at-record-at sought) in
+    clear-number (case (found-at sought)) (seen sought) _ refl _ _ (judged .judge-handshake .ensures) (at-record-at sought .before .before .if1 .left) (c .clear .ensures)
 
 cast-t21 : tie.Need-cast-t21
 cast-t21 c =
     let asked = c .before .before in
-    omega (arith, refused-dead _ _ _ (asked .clear .ensures) (c .before .if2 .taken) .1, seen-few (case (found-at (asked .before))) (seen (asked .before)))
+    omega (arith, refused-dead _ _ _ _ (asked .clear .ensures) (c .before .if2 .taken) .1, seen-few (case (found-at (at-find2 asked))) (seen (at-find2 asked)))
 
 same-length-2 : tie.Need-same-length-2
 same-length-2 c = search needs
@@ -100,31 +108,50 @@ returns-2 c =
     let asked = c .before .before in
     told-dead _ _ _ _ _
     (refused _ _ _ _ (number asked) (c .before .if2 .taken))
-    (refused-dead _ _ _ (asked .clear .ensures) (c .before .if2 .taken) .0) _ (dead-is (case (found-at (asked .before))) (seen (asked .before)))
+    (refused-dead _ _ _ _ (asked .clear .ensures) (c .before .if2 .taken) .0) _ (dead-is (case (found-at (at-find2 asked))) (seen (at-find2 asked)))
+
+-- what is paid for
+few-live : (c : tie.After-find2) → c .find2 .result .living ≤ mostHeld
+few-live c = omega (arith, living-few (case (found-at c)) (seen c), seen-few (case (found-at c)) (seen c))
+
+cast-settle : tie.Need-cast-settle
+cast-settle c = omega (arith, few-live (at-find2 (c .before .before .before)))
 
 settle-requires : tie.Need-settle-requires
-settle-requires c κs = account (case (found-at (c .before .before .before)))
+settle-requires c κs =
+    let sought = at-find2 (c .before .before .before) in
+    account (case (found-at sought)) _ (few-live sought)
 
-alone-requires-2 : tie.Need-alone-requires-2
-alone-requires-2 c κs = search needs
+abbrev at-settle : tie.After-struct-known4 → tie.After-settle
+at-settle c = c .before .before .before
+
+abbrev at-else2 : tie.After-settle → tie.Else2
+at-else2 c = c .before .before .before
+
+sub-t25 : tie.Need-sub-t25
+sub-t25 c =
+    let sought = at-find2 (at-else2 (at-settle c) .before) in
+    living-few (case (found-at sought)) (seen sought)
+
+cast-t26 : tie.Need-cast-t26
+cast-t26 c =
+    let sought = at-find2 (at-else2 (at-settle c) .before) in
+    omega (arith, seen-few (case (found-at sought)) (seen sought))
 
 same-length-3 : tie.Need-same-length-3
 same-length-3 c = search needs
 
-abbrev at-else2 : tie.After-settle → tie.Else2
-at-else2 c = c .before .before
-
 returns-3 : tie.Need-returns-3
 unfolding clear
 returns-3 c =
-    let paid = c .before .before .before in
+    let paid = at-settle c in
     let passed = at-else2 paid in
     let asked = passed .before in
-    as-alone (c .alone2 .ensures)
-    (told-none _ _ _ _ _
-    (granted _ _ _ _ (number asked) _ (passed .if2 .left)
-    (clear-written (case (found-at (asked .before))) (seen (asked .before)) _ (asked .clear .ensures) (passed .if2 .left) _ (paid .settle .ensures)))
-    (λ z. omega arith))
+    let sought = at-find2 asked in
+    told-cleared _ _ _ _ _
+    (granted _ _ _ _ (number asked) _ (passed .if2 .left) (clear-written (case (found-at sought)) (seen sought) _ (paid .settle .ensures)))
+    refl (begun (found-at sought) .pre .2) _ (dropped-is (case (found-at sought)) (seen sought))
+    (none-dropped (case (found-at sought)) (seen sought) _ refl _ (asked .clear .ensures) (passed .if2 .left))
 
 pub clear-spec : {M : Type 1} → statement M
 clear-spec =
@@ -144,7 +171,9 @@ clear-spec =
     cast-t21
     same-length-2
     returns-2
+    cast-settle
     settle-requires
-    alone-requires-2
+    sub-t25
+    cast-t26
     same-length-3
     returns-3)

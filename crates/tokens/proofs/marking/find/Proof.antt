@@ -1,25 +1,22 @@
--- The first without a place is found in what is left, and so are the marks that are left.
-use mathlib.Core.Path.{_≡_, refl, sym, _∙_}
-use Prim.Native.Nat.{_-_, _<_}
-use native.Mathlib.Omega.{arith}
-use borrow.Author.Tests.{eq-eqb, ne-eqb}
-use Rattle.rules.specs.Lists.{eqb, length, drop, placeOf, firstAbsent}
-use Rattle.laws.proofs.Loops.{Sought, sought-all, sought-end, sought-hit, sought-miss}
-use Rattle.tokens.specs.Marks.{marked}
-use Rattle.tokens.proofs.marking.Marking.{found-is, bit-small, marked-end, marked-dead, marked-live}
+-- What was found of the first k tokens is known, and each further one either lives or is gone.
+use mathlib.Core.Path.{_≡_, refl, _∙_}
+use mathlib.Core.Logic.{⊎-elim}
+use Prim.Native.Nat.{_-_}
+use Rattle.rules.specs.Lists.{length}
+use Rattle.tokens.proofs.marking.Counting.{Counting, counting-none, counting-end, counting-living, counting-dead}
+use Rattle.tokens.proofs.marking.Finding.{where-equal, where-unequal}
 use borrow.Author.Needs.{needs}
 use Rattle.tokens.proofs.marking.find.Statement.{statement}
 use Rattle.tokens.proofs.marking.find.Tie as tie
 
 abbrev Inv-loop : tie.InvT-loop
-Inv-loop list tokens marks n all₀ k₀ all k =
-    (n ≡ length tokens) × Sought (λ x. eqb (placeOf x list) (length list)) tokens k × (marked list (drop k tokens) all ≡ marked list tokens marks)
+Inv-loop list tokens marks n dead₀ gone₀ all₀ k₀ dead gone all k = (n ≡ length tokens) × Counting list tokens marks n dead gone all k
 
 abbrev μ-loop : tie.MeasureT-loop
-μ-loop list tokens marks n all₀ k₀ all k = length tokens - k
+μ-loop list tokens marks n dead₀ gone₀ all₀ k₀ dead gone all k = length tokens - k
 
 loop-holds : tie.Need-loop-holds Inv-loop μ-loop
-loop-holds c = (refl, sought-all _ _, refl)
+loop-holds c = (refl, counting-none _ _ _ _)
 
 mul-first-hit : tie.Need-mul-first-hit Inv-loop μ-loop
 mul-first-hit c = search needs
@@ -30,30 +27,14 @@ shared-slice-read-first-hit c = search needs
 first-hit-requires : tie.Need-first-hit-requires Inv-loop μ-loop
 first-hit-requires c κs = search needs
 
-abbrev looped : tie.After-first-hit Inv-loop μ-loop → tie.At-loop Inv-loop μ-loop
-looped c = c .before .before .before
-
-abbrev begun : tie.At-loop Inv-loop μ-loop → tie.Start Inv-loop μ-loop
-begun c = c .before .before .before
-
-returns : tie.Need-returns Inv-loop μ-loop
-unfolding firstAbsent
-returns c =
-    let l = looped (c .before) in
-    let hit = sym (c .before .first-hit .ensures) ∙ c .if1 .taken in
-    found-is _ _ _ _ _
-    (sought-hit _ _ (l .loop .k) (l .loop .inv .1) (omega arith) (eq-eqb _ _ hit))
-    (marked-dead _ _ _ _ _ (l .loop .inv .2) (c .before .before .before .loop-test .taken) hit)
-
--- a token that is found has a bit
-small : (c : tie.Else1 Inv-loop μ-loop) → c .before .first-hit .result < 32
-small c = bit-small _ _ _ (c .before .first-hit .ensures) (c .if1 .left) (begun (looped (c .before)) .pre)
-
 cast-all : tie.Need-cast-all Inv-loop μ-loop
-cast-all c = omega (arith, small c)
+cast-all c = search needs
 
 shl-all : tie.Need-shl-all Inv-loop μ-loop
-shl-all c = small c
+shl-all c = search needs
+
+add-gone : tie.Need-add-gone Inv-loop μ-loop
+add-gone c = search needs
 
 add-k : tie.Need-add-k Inv-loop μ-loop
 add-k c = search needs
@@ -63,18 +44,23 @@ loop-less c = search needs
 
 loop-again : tie.Need-loop-again Inv-loop μ-loop
 loop-again c =
-    let l = looped (c .before) in
-    let p = c .before .first-hit .ensures in (
+    let inside = c .before .before .before in
+    let inv = inside .before .loop .inv in
+    let place = c .before .first-hit .ensures in (
       refl,
-      sought-miss _ _ (l .loop .k) (l .loop .inv .1) (omega arith) (ne-eqb _ _ (λ q. c .if1 .left (p ∙ q))),
-      marked-live _ _ _ _ _ (l .loop .inv .2) (c .before .before .before .loop-test .taken) _ p (c .if1 .left) (small c),
+      ⊎-elim
+          (λ w. counting-living (inv .1) (inside .loop-test .taken) place _ _ _ (w .0 .taken) (search needs) (w .1) (w .2) (w .3))
+          (λ w.
+          let first = ⊎-elim (λ v. where-equal _ _ (v .0 .taken) (v .1)) (λ v. where-unequal _ _ (v .0 .left) (v .1)) (w .1 .came) in
+          counting-dead (inv .1) (inside .loop-test .taken) place _ _ _ (w .0 .left) (w .2 ∙ first) (w .3) (w .4))
+          (c .if1 .came),
     )
 
-returns-2 : tie.Need-returns-2 Inv-loop μ-loop
-unfolding firstAbsent
-returns-2 c =
-    let l = c .before .loop .inv in
-    found-is _ _ _ _ _ (sought-end _ _ _ (l .1) (omega arith)) (marked-end _ _ _ _ _ (l .2) (c .loop-test .left))
+sub-living : tie.Need-sub-living Inv-loop μ-loop
+sub-living c = search needs
+
+returns : tie.Need-returns Inv-loop μ-loop
+returns c = let inv = c .before .loop .inv in counting-end (inv .1) (inv .0) (c .loop-test .left)
 
 pub find-spec : {M : Type 1} → statement M
 find-spec =
@@ -86,10 +72,11 @@ find-spec =
     mul-first-hit
     shared-slice-read-first-hit
     first-hit-requires
-    returns
     cast-all
     shl-all
+    add-gone
     add-k
     loop-less
     loop-again
-    returns-2)
+    sub-living
+    returns)
