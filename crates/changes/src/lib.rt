@@ -103,8 +103,8 @@ pub fn use_up(book: &mut [u32], till: usize, view: usize, s: u32)
     keep_rest(book, view, 1, 31, balance, s);
 }
 
-// A line is cleared: the customer's view loses the tokens that are marked, the bench is paid for each of them and its handshake is
-// used up, the line holds none.
+// A line is cleared: the customer's view loses the tokens that are marked, the bench is paid what the caller has counted and its
+// handshake is used up, the line holds none.
 pub fn settle(book: &mut [u32], view: usize, bench: usize, line: usize, marks: u32, paid: u32)
     requires { ⌜ Account (now book) view bench line paid ⌝ }
     ensures { λ _. ⌜ now (book .exit) ≡ put line (made 0 0 []) (put bench (withHandshake 0 (withAmount (amount (recordAt bench (now (book .entry))) + paid) (recordAt bench (now (book .entry))))) (put view (made (amount (recordAt view (now (book .entry)))) 0 (unmarked marks (held (recordAt view (now (book .entry)))))) (now (book .entry)))) ⌝ }

@@ -1,5 +1,5 @@
--- A bench's granted clears, of either kind, over a tape that begins with the empty book: each comes next after the desk's authentication, and that
--- next after the bench's. The statement reads records and verdicts; books come in only in the proof.
+-- A bench's granted clears, of either kind, over a tape that begins with the empty book: each comes next after the desk's
+-- authentication, and that next after the bench's. The statement reads records and verdicts; books come in only in the proof.
 use mathlib.Core.Path.{_≡_, refl, sym, ap, _∙_, subst}
 use mathlib.Core.Logic.{⊎-elim}
 use Prim.Native.Nat.{_<_}
