@@ -1,9 +1,10 @@
--- A range of numbers: a test of each, and how often a number stands in it.
+-- A range of numbers: a test of each, its two parts, and how often a number stands in it.
 use mathlib.Core.Path.{_≡_, refl, sym, ap, _∙_}
+use mathlib.Core.List.{append-assoc}
 use mathlib.Core.Logic.{⊎-elim}
 use Prim.Native.Nat.{_≤_, _<_}
 use native.Mathlib.Omega.{arith}
-use Rattle.rules.specs.Lists.{ℕ, zero, suc, _+_, Bool, true, _&&_, List, _++_, range, every, occ, joined}
+use Rattle.rules.specs.Lists.{ℕ, zero, suc, _+_, Bool, true, _&&_, List, [], _∷_, _++_, range, every, occ, joined}
 use Rattle.rules.proofs.Tests.{same, and-left, and-right, true-and}
 use Rattle.laws.proofs.Occurrences.{occ-equal, occ-unequal}
 
@@ -38,6 +39,23 @@ joined-same f g a zero e = refl
 joined-same f g a (suc n) e =
     ap (λ (xs : List ℕ). xs ++ joined f (range (suc a) n)) (e a (omega arith) (omega arith))
     ∙ ap (λ (xs : List ℕ). g a ++ xs) (joined-same f g (suc a) n (λ k l u. e k (omega arith) (omega arith)))
+
+-- ---- in two parts
+pub range-parts : (a n m : ℕ) → range a (n + m) ≡ range a n ++ range (a + n) m
+unfolding range
+range-parts a zero m =
+    let p : 0 + m ≡ m = omega arith in
+    let q : a + 0 ≡ a = omega arith in
+    rw (p, q)
+range-parts a (suc n) m =
+    let p : suc n + m ≡ suc (n + m) = omega arith in
+    let q : a + suc n ≡ suc a + n = omega arith in
+    rw (p, q, range-parts (suc a) n m)
+
+pub joined-both : (f : ℕ → List ℕ) (ks js : List ℕ) → joined f (ks ++ js) ≡ joined f ks ++ joined f js
+unfolding joined
+joined-both f [] js = refl
+joined-both f (k ∷ ks) js = ap (λ (l : List ℕ). f k ++ l) (joined-both f ks js) ∙ sym (append-assoc (f k) (joined f ks) (joined f js))
 
 -- ---- how often a number stands in a range
 module _ (k : ℕ) where

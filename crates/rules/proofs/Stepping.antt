@@ -42,13 +42,18 @@ module _ (f : Form) (h : Hall) (ts b : List ℕ) (e : Entry) where
   unfolding effect
   step-changes v q = step-granted (step-verdict ∙ v) ∙ ap (λ (i : ℕ). putAll h (changes h b e f ts i) b) q
 
+  -- granted, with the changes made, or refused, with the book as it was
+  pub granted-or : (P : Type 0) → (verdict f h ts b e ≡ 0 → step f h ts b e .cells ≡ effect f h ts b e → P)
+      → ((verdict f h ts b e ≡ 0 → ⊥) → step f h ts b e .cells ≡ b → P) → P
+  granted-or P granted refused =
+      ⊎-elim
+      (λ (v : verdict f h ts b e ≡ 0). granted v (step-granted (step-verdict ∙ v)))
+      (λ (n : verdict f h ts b e ≡ 0 → ⊥). refused n (step-refused (λ z. n (sym step-verdict ∙ z))))
+      (same (verdict f h ts b e) 0)
+
   -- what holds of the book before a step, and after it where it is granted, holds after every step
   pub step-cases : (P : List ℕ → Type 0) → (verdict f h ts b e ≡ 0 → P (effect f h ts b e)) → P b → P (step f h ts b e .cells)
-  step-cases P granted stays =
-      ⊎-elim
-      (λ (z : step f h ts b e .number ≡ 0). subst P (sym (step-granted z)) (granted (sym step-verdict ∙ z)))
-      (λ (z : step f h ts b e .number ≡ 0 → ⊥). subst P (sym (step-refused z)) stays)
-      (same (step f h ts b e .number) 0)
+  step-cases P granted stays = granted-or _ (λ v q. subst P (sym q) (granted v)) (λ n q. subst P (sym q) stays)
 
   -- of the table's numbers whose test holds the verdict is the one that stands first, and 0 where none does
   pub verdict-foremost : Foremost (table f h ts b e) (verdict f h ts b e)

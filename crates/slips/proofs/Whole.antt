@@ -12,6 +12,7 @@ use Rattle.rules.specs.Answers.{first, answer, Gives}
 use Rattle.rules.specs.Sound.{fits, goodList, deskGood, recordGood, partiesGood, onceIn, moneyGood}
 use Rattle.rules.specs.Slips.{slipTokens, openBook, slipsGood, slipLineGood, isRun, slipSound, openInto}
 use Rattle.rules.proofs.Tests.{parts, below, alike, and-left, and-right, true-and, and-no, Chain}
+use Rattle.laws.proofs.Groups.{joined-both}
 use Rattle.laws.proofs.Groups.{every-range, range-every, every-same, joined-same}
 use Rattle.laws.proofs.Blocks.{block-long}
 use Rattle.laws.proofs.Asked.{record-place, place-desk}
@@ -23,7 +24,7 @@ use Rattle.laws.proofs.SlipLines.{open-held}
 use Rattle.sound.specs.Together.{heldIn}
 use Rattle.sound.proofs.groups.Grouped.{different-both}
 use Rattle.sound.specs.Accounts.{accountsGood}
-use Rattle.sound.proofs.Whole.{joined-both, clauses}
+use Rattle.sound.proofs.Whole.{clauses}
 use Rattle.slips.specs.Fine.{fine}
 use Rattle.slips.specs.Alone.{firsts, begunIn, allAlone}
 use Rattle.slips.proofs.alone.Alone.{slips-alone}

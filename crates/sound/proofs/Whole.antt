@@ -1,14 +1,14 @@
 -- The clauses put together: who is in use with whom, carnets with lines, and the whole test.
-use mathlib.Core.Path.{_≡_, refl, sym, ap, _∙_}
-use mathlib.Core.List.{append-assoc}
+use mathlib.Core.Path.{_≡_, refl, ap, _∙_}
 use native.Mathlib.Nat.{add-zero}
 use borrow.Author.Tests.{eq-eqb, ne-eqb}
 use Rattle.rules.specs.declared.Hall.{Hall}
-use Rattle.rules.specs.Lists.{ℕ, _*_, min, Bool, true, false, _&&_, leb, List, [], _∷_, _++_, length, range, every, allDifferent, joined}
+use Rattle.rules.specs.Lists.{ℕ, _*_, min, Bool, true, false, _&&_, leb, List, _++_, length, range, every, allDifferent, joined}
 use Rattle.rules.specs.Hall.{Place, Carnet, View, BenchView, Till, Line, number, records, carnets, lines, spendable, views}
 use Rattle.rules.specs.Records.{words, inUse, amount, held, recordAt}
 use Rattle.rules.specs.Sound.{goodList, fits, recordGood, partiesGood, onceIn, moneyGood, soundBy, sound}
 use Rattle.rules.proofs.Tests.{and-yes, and-no, Chain}
+use Rattle.laws.proofs.Groups.{joined-both}
 use Rattle.laws.proofs.Reflect.{by-rows}
 use Rattle.sound.specs.Together.{apart, paired, backed}
 use Rattle.sound.proofs.groups.Grouped.{different-both}
@@ -38,11 +38,6 @@ module _ (h : Hall) (b : List ℕ) where
 -- ---- carnets and lines, each group by itself and the one against the other
 abbrev heldBy : (ℕ → List ℕ) → List ℕ → List ℕ
 heldBy at ks = joined (λ k. held (at k)) ks
-
-pub joined-both : (f : ℕ → List ℕ) (ks js : List ℕ) → joined f (ks ++ js) ≡ joined f ks ++ joined f js
-unfolding joined
-joined-both f [] js = refl
-joined-both f (k ∷ ks) js = ap (λ (l : List ℕ). f k ++ l) (joined-both f ks js) ∙ sym (append-assoc (f k) (joined f ks) (joined f js))
 
 once-both : (at : ℕ → List ℕ) (ks js : List ℕ) → onceIn (ks ++ js) at ≡ (onceIn ks at && apart (heldBy at ks) (heldBy at js)) && onceIn js at
 unfolding onceIn

@@ -1,21 +1,14 @@
 -- Texts joined over a range of numbers: in two parts, under other numbers, one more.
 use mathlib.Core.Path.{_≡_, refl, ap, _∙_}
-use mathlib.Core.List.{append-assoc, append-nil}
+use mathlib.Core.List.{append-nil}
 use native.Mathlib.Nat.{zero-add}
 use native.Mathlib.Omega.{arith}
 use Rattle.rules.specs.Lists.{ℕ, zero, suc, _+_, List, _++_, range, joined}
+use Rattle.laws.proofs.Groups.{range-parts, joined-both}
 
 module _ (f : ℕ → List ℕ) where
   pub joined-parts : (a n m : ℕ) → joined f (range a (n + m)) ≡ joined f (range a n) ++ joined f (range (a + n) m)
-  unfolding joined range
-  joined-parts a zero m =
-      let p : 0 + m ≡ m = omega arith in
-      let q : a + 0 ≡ a = omega arith in
-      rw (p, q)
-  joined-parts a (suc n) m =
-      let p : suc n + m ≡ suc (n + m) = omega arith in
-      let q : a + suc n ≡ suc a + n = omega arith in
-      rw (p, q, joined-parts (suc a) n m, append-assoc)
+  joined-parts a n m = ap (joined f) (range-parts a n m) ∙ joined-both f (range a n) (range (a + n) m)
 
   pub joined-moved : (a b n : ℕ) → joined f (range (a + b) n) ≡ joined (λ k. f (a + k)) (range b n)
   unfolding joined range
