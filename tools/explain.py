@@ -1,22 +1,12 @@
 """A listing in words: what was refused and why, and what every customer and bench has.
 
-The listing says what a bench is owed and how many tokens wait there; how many of them are dead is known from the tape and
-its verdicts. Both have to come to the same sums, or nothing is said at all."""
-import collections, importlib.machinery, importlib.util, pathlib, re
+The listing says what a bench is owed and how many tokens wait there; how many of them are dead is counted from the tape and
+its verdicts. All that is counted has to be as the listing says, or nothing is said at all."""
+import pathlib
 
+import tally
 from streams import Fault
-
-
-def load_tape():
-    """tools/tape as a module; importlib wants a loader by name where a file doesn't end in .py."""
-    loader = importlib.machinery.SourceFileLoader("tape", str(pathlib.Path(__file__).resolve().parent / "tape"))
-    module = importlib.util.module_from_spec(importlib.util.spec_from_loader("tape", loader))
-    loader.exec_module(module)
-    return module
-
-
-tape = load_tape()
-UPDATE, SELL, CLEAR, CLEAR_LIVING = 4, 6, 9, 11  # the kinds that change what waits in a line
+from tally import tape
 
 # What a number says, and what to do, word for word as README.md has it.
 VERDICTS = {
@@ -58,70 +48,6 @@ VERDICTS = {
          " The second number, which a program gets with it, is the place of the first dead token in the line, 0 for the newest: all before it live."),
 }
 
-Listing = collections.namedtuple("Listing", "verdicts is_cut customers benches")
-
-
-def unfit(what):
-    return Fault(f"listing: these numbers don't fit together: {what}")
-
-
-def listing_of(records, is_cut, text):
-    """What a listing says, held to the records that it lists."""
-    lines = text.splitlines()
-    steps, rest = lines[:len(records)], lines[len(records):]
-    verdicts = []
-    for place, (record, line) in enumerate(zip(records, steps)):
-        match = re.fullmatch(f"{place} {record[0]} ([0-9]+)", line)
-        if not match or int(match[1]) not in {0, *VERDICTS}:
-            raise unfit(f'the line of step {place + 1} is "{line}"')
-        verdicts.append(int(match[1]))
-    if len(verdicts) < len(records) or (rest[:1] == ["cut"]) != is_cut:
-        raise unfit(f"a tape of {len(records)} steps{' and a cut one' if is_cut else ''}, and {len(lines)} lines")
-    accounts = {"C": {}, "M": {}}
-    for line in rest[is_cut:]:
-        match = re.fullmatch("([CM]) ([0-9]+) ([0-9]+) ([0-9]+) ([0-9]+)", line)
-        if not match:
-            raise unfit(f'an account is "{line}"')
-        accounts[match[1]][int(match[2])] = tuple(map(int, match.groups()[2:]))
-    return Listing(verdicts, is_cut, accounts["C"], accounts["M"])
-
-
-def lines_after(records, verdicts):
-    """The live tokens and the dead ones that wait in each line, by bench and customer; what each bench was paid; and how many
-    dead ones were dropped from each line."""
-    waiting, paid, dropped = collections.defaultdict(lambda: (0, 0)), collections.Counter(), collections.Counter()
-    for record, verdict in zip(records, verdicts):
-        kind, bench, customer, _, amount = tape.RECORD.unpack(record)
-        if verdict:
-            continue
-        live, dead = waiting[bench, customer]
-        if kind == SELL:
-            waiting[bench, customer] = live + amount, dead
-        elif kind == UPDATE:  # of any amount: all that the customer has sold leaves the desk's view
-            waiting.update({line: (0, sum(held)) for line, held in waiting.items() if line[1] == customer})
-        elif kind in (CLEAR, CLEAR_LIVING):
-            waiting[bench, customer] = 0, 0
-            paid[bench] += live
-            dropped[bench, customer] += dead
-    return {line: held for line, held in waiting.items() if any(held)}, paid, +dropped  # which leaves out zeros
-
-
-def check_sums(listing, waiting, paid):
-    """What the tape says to be paid and waiting is what the accounts say."""
-    benches, customers = collections.Counter(), collections.Counter()
-    for (bench, customer), (live, dead) in waiting.items():
-        benches[bench] += live + dead
-        customers[customer] += live
-    for bench in benches.keys() | paid.keys() | listing.benches.keys():
-        owed, _, told = listing.benches.get(bench, (0, 0, 0))
-        if (owed, told) != (paid[bench], benches[bench]):
-            by_tape = f"bench {bench} is owed {paid[bench]} and {benches[bench]} wait by the tape"
-            raise unfit(f"{by_tape}, {owed} and {told} by its account")
-    for customer in customers.keys() | listing.customers.keys():
-        _, view, carnet = listing.customers.get(customer, (0, 0, 0))
-        if view - carnet != customers[customer]:
-            raise unfit(f"customer {customer} has sold {customers[customer]} by the tape, {view - carnet} by the account")
-
 
 def count(number, noun):
     return f"{number or 'no'} {noun}{'' if number == 1 else 's'}"
@@ -145,22 +71,18 @@ def customer_line(number, budget, view, carnet):
     return f"customer {number}: {budget:,} left of the budget; {count(carnet, 'token')} in the carnet; {sold}"
 
 
-def bench_lines(number, owed, till, waiting, lines, dropped):
+def bench_lines(lines, number, owed, till, waiting):
     """A bench's account, and below it what is dead in its lines, and what was dropped."""
-    dead = sum(held[1] for held in lines.values())
+    dead = sum(line.dead for line in lines.values())
     sold = f"{count(waiting, 'token')} sold and waiting to be cleared" + (f", {dead} of them dead" if dead else "")
     yield f"bench {number}: owed {owed:,}; {count(till, 'authentication token')} in the till; {sold}"
-    for customer, (live, dead) in sorted(lines.items()):
-        if dead:
-            alive = f"; to clear what lives pays for {count(live, 'live token')} in the same line" if live else ""
-            yield f"  from customer {customer}: {count(dead, 'token')} dead, never to be paid{alive}"
-    for customer, tokens in sorted(dropped.items()):
-        yield f"  from customer {customer}: {count(tokens, 'dead token')} dropped, unpaid"
-
-
-def of_bench(number, lines):
-    """What is said of a bench's lines, by customer."""
-    return {customer: said for (bench, customer), said in lines.items() if bench == number}
+    for customer, line in lines.items():
+        if line.dead:
+            alive = f"; to clear what lives pays for {count(line.live, 'live token')} in the same line" if line.live else ""
+            yield f"  from customer {customer}: {count(line.dead, 'token')} dead, never to be paid{alive}"
+    for customer, line in lines.items():
+        if line.dropped:
+            yield f"  from customer {customer}: {count(line.dropped, 'dead token')} dropped, unpaid"
 
 
 def heading(listing):
@@ -178,17 +100,14 @@ def heading(listing):
 
 def explained(octets, text):
     """A tape and its listing in words."""
-    size = tape.RECORD.size
-    whole = len(octets) - len(octets) % size
-    records = [octets[at:at + size] for at in range(0, whole, size)]
-    listing = listing_of(records, whole < len(octets), text)
-    waiting, paid, dropped = lines_after(records, listing.verdicts)
-    check_sums(listing, waiting, paid)
-    customers = [customer_line(number, *account) for number, account in listing.customers.items()]
-    benches = []
-    for number, account in listing.benches.items():
-        benches += bench_lines(number, *account, of_bench(number, waiting), of_bench(number, dropped))
-    accounts = ["", *customers, *benches] if customers or benches else []
+    records, is_cut = tally.records_in(octets)
+    listing = tally.listing_of(records, is_cut, text)
+    hall, wrong = tally.tallied(records, listing)
+    if wrong:
+        raise tally.unfit(wrong)
+    accounts = [""] if listing.accounts else []
+    for letter, number, *counts in listing.accounts:
+        accounts += [customer_line(number, *counts)] if letter == "C" else bench_lines(hall.lines_of(number), number, *counts)
     return "".join(f"{line}\n" for line in [*heading(listing), *refusals(records, listing.verdicts), *accounts])
 
 

@@ -29,6 +29,19 @@ def is_open(descriptor):
     return True
 
 
+def opened(what, name, how):
+    """A file, or standard input where none is named, open to be read. How says what to do instead of typing it in."""
+    try:
+        if name is None and not is_open(0):
+            raise Fault(f"{what}: standard input is closed")
+        source = open(0 if name is None else name, "rb", buffering=0)
+    except OSError as fault:
+        raise Fault(f"{what}: {shown('standard input' if name is None else name)}: {fault.strerror}")
+    if source.isatty():
+        raise Fault(f"{what}: a terminal is no {what}: {how}")
+    return source
+
+
 def all_of(what, descriptor):
     """All that can be read. Python's own files take a pipe that doesn't wait for its writer to be at its end."""
     if not is_open(descriptor):

@@ -4,12 +4,11 @@ use mathlib.Core.Logic.{⊎-elim}
 use Rattle.rules.specs.declared.Hall.{Hall}
 use Rattle.rules.specs.declared.Entry.{Entry}
 use Rattle.rules.specs.Lists.{ℕ, _+_, true, List}
-use Rattle.rules.specs.Records.{recordAt}
-use Rattle.rules.specs.Sound.{total}
 use Rattle.rules.specs.Form.{plain}
 use Rattle.rules.specs.Slips.{openBook, slipSound, slip}
 use Rattle.rules.specs.Steps.{changes, effect}
 use Rattle.rules.specs.Verdicts.{Stepped, verdict, step, Ran, onward, steps}
+use Rattle.rules.specs.Balance.{brings, holdings}
 use Rattle.rules.proofs.Tests.{same}
 use Rattle.rules.proofs.Stepping.{stepped-alike, step-granted, step-refused, step-verdict}
 use Rattle.rules.proofs.Named.{Each}
@@ -17,7 +16,7 @@ use Rattle.laws.proofs.Changes.{Fit}
 use Rattle.laws.proofs.ReflectSlips.{SlipSound, slip-sound-facts, slip-sound-test}
 use Rattle.rules.proofs.Granted.{granted-good, granted-kind}
 use Rattle.keeps.proofs.Fits.{fits, changes-apart}
-use Rattle.keeps.proofs.Keeps.{brings, plain-keeps, plain-money, Money, along-sound}
+use Rattle.keeps.proofs.Keeps.{plain-keeps, plain-money, Money, along-sound}
 use Rattle.agree.proofs.SameVerdict.{same-total, same-verdict, same-second}
 use Rattle.agree.proofs.OpenChanges.{fine-opens, fine-slip-sound}
 use Rattle.agree.proofs.SameStep.{slip-fine, slip-regular}
@@ -50,7 +49,7 @@ module _ (h : Hall) (ts b : List ℕ) (e : Entry) (v : verdict slip h ts b e ≡
 pub slip-money : Money slip
 slip-money h ts b e v =
     sym (same-total h ts (effect slip h ts b e) (slip-sound-facts h ts (effect slip h ts b e) (slip-keeps h ts b e v)))
-    ∙ ap (λ (x : List ℕ). total h (λ k. recordAt k x)) (effect-opens h ts b e v)
+    ∙ ap (holdings h) (effect-opens h ts b e v)
     ∙ plain-money h ts (openBook h ts b) e (v′ h ts b e v)
     ∙ ap (λ (n : ℕ). n + brings (e .kind) e) (same-total h ts b (ok h ts b e v))
 

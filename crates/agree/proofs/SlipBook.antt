@@ -1,17 +1,19 @@
 -- The slip book, too, is kept sound; no tenant is touched by another's step or paid for another's sale; a clear follows on both
--- authentications; a sale and a top up of 0 change nothing, a clear of an empty line the handshake alone.
+-- authentications; the yearly balance holds; a sale and a top up of 0 change nothing, a clear of an empty line the handshake alone.
 use mathlib.Core.Path.{_≡_, refl, sym, ap, _∙_, subst}
 use native.Mathlib.Omega.{arith}
 use Prim.Native.Nat.{_<_}
-use Rattle.rules.specs.Lists.{ℕ, _*_, List, take}
-use Rattle.rules.specs.Hall.{Carnet, View, BenchView, Till, Line, number, records}
+use Rattle.rules.specs.Lists.{ℕ, _*_, List, take, drop, occ, sumOf}
+use Rattle.rules.specs.Hall.{Carnet, View, BenchView, Till, Line, number, records, customerViews}
 use Rattle.rules.specs.Records.{words, inUse, amount, sales, cells, held, filled, made, recordAt}
 use Rattle.rules.specs.Slips.{openSlips, slipTokens, slipPairs, slipOf, openBook, slip}
 use Rattle.rules.specs.Steps.{dealt}
 use Rattle.laws.proofs.Blocks.{block-long}
+use Rattle.laws.proofs.Groups.{joined-same}
+use Rattle.laws.proofs.Occurrences.{occ-joined}
 use Rattle.laws.proofs.Made.{filled-is}
 use Rattle.laws.proofs.Reflect.{Book}
-use Rattle.laws.proofs.Books.{bare-at, line-at}
+use Rattle.laws.proofs.Books.{bare-at, line-at, list-different}
 use Rattle.laws.proofs.Places.{inside-below}
 use Rattle.laws.proofs.Opened.{open-same}
 use Rattle.laws.proofs.ReflectSlips.{SlipSound, slip-sound-facts, SlipLine, slip-line-facts}
@@ -21,10 +23,13 @@ use Rattle.keeps.proofs.Origin.{Lines}
 use Rattle.keeps.proofs.Tenants.{Tenants, tenants}
 use Rattle.keeps.proofs.BenchViews.{Blank, Strangers, plain-strangers}
 use Rattle.keeps.proofs.Handshake.{Handshakes, handshakes}
+use Rattle.keeps.proofs.Credited.{Payables, book-payable}
+use Rattle.keeps.proofs.Balance.{Balances, balances}
 use Rattle.laws.proofs.SlipLines.{tokens-length}
 use Rattle.agree.proofs.SameVerdict.{opened-book, word-use, word-amount, word-count, word-sales, dealt-small, count-small}
 use Rattle.agree.proofs.SameStep.{slip-sold, slip-regular}
-use Rattle.agree.proofs.SameRun.{slip-keeps}
+use Rattle.agree.proofs.SameRun.{slip-keeps, slip-money}
+use Rattle.agree.proofs.WholeSlips.{slip-unsold}
 
 pub slip-kept : Kept slip
 slip-kept = kept slip slip-keeps
@@ -53,6 +58,24 @@ slip-strangers h ts b g m i out =
 
 pub slip-handshakes : Handshakes slip
 slip-handshakes = handshakes slip slip-regular slip-strangers
+
+slip-payables : Payables slip
+slip-payables h ts b g =
+    let ok : SlipSound h ts b = slip-sound-facts h ts b g in
+    let o : List ℕ = openBook h ts b in
+    let in-view : ℕ → List ℕ → ℕ → ℕ = λ t x k. occ t (held (recordAt k x)) in
+    let same : (t : ℕ) → sumOf (in-view t o) (customerViews h) ≡ sumOf (in-view t b) (customerViews h) =
+    λ t.
+    sym (occ-joined t (λ k. held (recordAt k o)) (customerViews h))
+    ∙ ap (occ t) (joined-same _ _ (number h (View 0)) (h .customers) (λ k l u. ap held (open-same h ts b (ok .long) k (omega (arith, u)))))
+    ∙ occ-joined t (λ k. held (recordAt k b)) (customerViews h) in
+    record {
+      list = list-different h ts o (opened-book h ts b ok);
+      listed = λ t. omega (arith, book-payable h ts o (opened-book h ts b ok) t, same t, ap (λ (d : ℕ). occ t (drop d ts)) (word-amount h ts b ok 0));
+    }
+
+pub slip-balances : Balances slip
+slip-balances = balances slip slip-regular slip-strangers slip-unsold slip-payables slip-money
 
 -- all records but the lines are those of the opened book
 slip-tidies : Tidies slip

@@ -8,7 +8,7 @@ use Rattle.rules.specs.declared.Entry.{Entry}
 use Rattle.rules.specs.Lists.{ℕ, _*_, Bool, true, false, eqb, List, [], _∷_, length, occ, isIn}
 use Rattle.rules.specs.Hall.{Place, Desk, Carnet, View, BenchView, Till, Line, number, records}
 use Rattle.rules.specs.Records.{words, inUse, amount, handshake, held, made, withAmount, withHandshake}
-use Rattle.rules.specs.Tape.{JoinBench, Stock, BenchAuthenticates, DeskAuthenticates, Clear, ClearLiving, kindOf, usesBench}
+use Rattle.rules.specs.Tape.{JoinBench, Stock, BenchAuthenticates, DeskAuthenticates, Clear, ClearLiving, kindOf, clears, usesBench}
 use Rattle.rules.specs.Form.{Form, plain}
 use Rattle.rules.specs.Steps.{joining, dealing, updating, stocking, selling, authenticating, settling, clearing, toppingUp, changes, effect, theBenchView}
 use Rattle.rules.specs.Verdicts.{verdict, step}
@@ -26,16 +26,13 @@ use Rattle.laws.proofs.Places.{inside-below}
 use Rattle.laws.proofs.Changes.{at, lookup, lookup-each, at-long}
 use Rattle.keeps.proofs.Fits.{Regular, fits, stands, step-stands}
 
--- ---- the kinds that write its balance and its tokens; `writesHandshake` are those that write the third
-abbrev pub writesBalance : ℕ → Bool
-writesBalance k = isIn k (kindOf Clear ∷ kindOf ClearLiving ∷ [])
-
+-- ---- the kinds that write its tokens; `clears` are those that write its balance, `writesHandshake` those that write the third
 abbrev pub writesTokens : ℕ → Bool
 writesTokens k = isIn k (kindOf Stock ∷ kindOf BenchAuthenticates ∷ kindOf DeskAuthenticates ∷ [])
 
 -- a view r, and r′ after a step of kind k: what the kind doesn't write is as it was
 pub record Rest (k : ℕ) (r r′ : List ℕ) : Type 0 where
-  pub balance : writesBalance k ≡ false → amount r′ ≡ amount r
+  pub balance : clears k ≡ false → amount r′ ≡ amount r
   pub shaken : writesHandshake k ≡ false → handshake r′ ≡ handshake r
   pub tokens : writesTokens k ≡ false → held r′ ≡ held r
 
@@ -59,7 +56,7 @@ module _ (k : ℕ) (r : List ℕ) where
       record { balance = λ n. made-amount (amount r) s xs; shaken = λ n. never _ p n; tokens = λ n. never _ q n }
 
   -- another balance and another handshake
-  paid : writesHandshake k ≡ true → writesBalance k ≡ true → (a s : ℕ) → Rest k r (withHandshake s (withAmount a r))
+  paid : writesHandshake k ≡ true → clears k ≡ true → (a s : ℕ) → Rest k r (withHandshake s (withAmount a r))
   paid p q a s =
       record {
         balance = λ n. never _ q n;

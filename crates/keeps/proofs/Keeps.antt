@@ -4,14 +4,15 @@ use Prim.Native.Nat.{_≤_, _<_}
 use native.Mathlib.Omega.{arith}
 use Rattle.rules.specs.declared.Hall.{Hall}
 use Rattle.rules.specs.declared.Entry.{Entry}
-use Rattle.rules.specs.Lists.{ℕ, Bool, true, _||_, eqb, List, [], _∷_, _++_, length, occ, _+_, cond}
+use Rattle.rules.specs.Lists.{ℕ, Bool, true, _||_, eqb, List, [], _∷_, _++_, length, occ, _+_}
 use Rattle.rules.specs.Hall.{Carnet, View, Till, BenchView, Line, number}
 use Rattle.rules.specs.Records.{inUse, recordAt}
-use Rattle.rules.specs.Tape.{JoinCustomer, JoinBench, OpenLine, Sell, TopUp, kindOf, clears, usesBench, usesCustomer, entries}
+use Rattle.rules.specs.Tape.{JoinCustomer, JoinBench, OpenLine, Sell, kindOf, clears, usesBench, usesCustomer, entries}
 use Rattle.rules.specs.Form.{Form, plain}
 use Rattle.rules.specs.Steps.{dealt, clearing, changes, effect}
-use Rattle.rules.specs.Sound.{total, sound}
+use Rattle.rules.specs.Sound.{sound}
 use Rattle.rules.specs.Verdicts.{verdict, step, Ran, idle, onward, steps, oneEach, run}
+use Rattle.rules.specs.Balance.{brings, holdings}
 use Rattle.rules.proofs.Tests.{or-yes}
 use Rattle.rules.proofs.Stepping.{step-cases}
 use Rattle.rules.proofs.Along.{along}
@@ -26,10 +27,6 @@ use Rattle.rules.proofs.Granted.{granted-good, granted-kind, bench-inside, cust
 use Rattle.keeps.proofs.Fits.{changes-apart, fits, plain-regular}
 use Rattle.keeps.proofs.Fine.{Fine, fine-money, fine-keeps}
 use Rattle.keeps.proofs.FineKinds.{join-customer-fine, join-bench-fine, open-line-fine, update-fine, stock-fine, sell-fine, authenticate-fine, clear-fine, top-up-fine}
-
--- what a granted step of kind k brings into the hall: the money of who joins, and what is added later
-abbrev pub brings : ℕ → Entry → ℕ
-brings k e = cond (eqb k (kindOf JoinCustomer) || eqb k (kindOf TopUp)) (e .amount) 0
 
 -- ---- the plain book
 module _ (h : Hall) (ts b : List ℕ) (e : Entry) (v : verdict plain h ts b e ≡ 0) where
@@ -111,14 +108,13 @@ module _ (h : Hall) (ts b : List ℕ) (e : Entry) (v : verdict plain h ts b e �
   unfolding effect
   plain-keeps = fine-keeps h ts b ok _ _ _ (changes h b e plain ts (e .kind)) whole all-apart (step-fine whole .1 .1)
 
-  pub plain-money : total h (λ k. recordAt k (effect plain h ts b e)) ≡ total h (λ k. recordAt k b) + brings (e .kind) e
+  pub plain-money : holdings h (effect plain h ts b e) ≡ holdings h b + brings (e .kind) e
   unfolding effect
   plain-money = fine-money h ts b ok _ _ _ (changes h b e plain ts (e .kind)) whole all-apart (step-fine whole .1 .1)
 
 -- ---- a form's granted steps leave the hall with the money it had and what the record brings in
 abbrev pub Money : Form → Type 0
-Money f = (h : Hall) (ts b : List ℕ) (e : Entry) → verdict f h ts b e ≡ 0
-    → total h (λ k. recordAt k (effect f h ts b e)) ≡ total h (λ k. recordAt k b) + brings (e .kind) e
+Money f = (h : Hall) (ts b : List ℕ) (e : Entry) → verdict f h ts b e ≡ 0 → holdings h (effect f h ts b e) ≡ holdings h b + brings (e .kind) e
 
 -- ---- a form whose granted steps keep its books sound
 abbrev pub Keeps : Form → Type 0

@@ -10,3 +10,5 @@ pub mod InFull
 pub mod BenchViews
 pub mod Handshake
 pub mod Carnets
+pub mod Credited
+pub mod Balance

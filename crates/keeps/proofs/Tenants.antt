@@ -55,7 +55,7 @@ module _ (f : Form) (regular : Regular f) (h : Hall) (ts b : List ℕ) (e : Entr
       rw (eq-eqb (e .bench) (e .bench) refl)
       (handshake-amount 0 _ ∙ amount-is _ (at h b (BenchView (e .bench))) (omega (arith, at-long h b long (BenchView (e .bench)) m-in)))
 
-  balance : amount (at h (step f h ts b e .cells) (BenchView (e .bench))) ≡ amount (at h b (BenchView (e .bench))) + length (living h b e f ts)
+  pub balance : amount (at h (step f h ts b e .cells) (BenchView (e .bench))) ≡ amount (at h b (BenchView (e .bench))) + length (living h b e f ts)
   balance =
       ap amount (step-stands f regular h ts b e v refl (BenchView (e .bench)) m-in)
       ∙ ap (λ (cs : List Change). amount (lookup cs (at h b) (BenchView (e .bench)))) (changes-clear f h ts b e (e .kind) k)

@@ -88,11 +88,11 @@ module _ (h : Hall) where
       (λ (l : records h ≤ k). ap inUse (block-past words (records h) k (emptyBook h) empty-long l))
       (below k (records h))
 
-  no-amount : (k : ℕ) → amount (recordAt k (emptyBook h)) ≡ 0
+  pub no-amount : (k : ℕ) → amount (recordAt k (emptyBook h)) ≡ 0
   unfolding amount made filled
   no-amount = nothing amount refl refl refl
 
-  no-count : (k : ℕ) → count (recordAt k (emptyBook h)) ≡ 0
+  pub no-count : (k : ℕ) → count (recordAt k (emptyBook h)) ≡ 0
   unfolding count made filled
   no-count = nothing count refl refl refl
 

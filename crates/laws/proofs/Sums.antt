@@ -1,12 +1,13 @@
--- Sums over a group of numbers, where one number's share changes.
+-- Sums over a group of numbers: in parts, under other numbers, and where one number's share changes.
 use mathlib.Core.Path.{_≡_, refl, sym, ap, _∙_}
 use mathlib.Core.Logic.{⊎-elim}
 use Prim.Native.Nat.{_≤_, _<_}
 use native.Mathlib.Omega.{arith}
 use borrow.Author.Tests.{eq-eqb, ne-eqb}
-use Rattle.rules.specs.Lists.{ℕ, zero, suc, _+_, _*_, List, [], _∷_, range, occ, sumOf}
+use Rattle.rules.specs.Lists.{ℕ, zero, suc, _+_, _*_, List, [], _∷_, _++_, range, occ, sumOf}
 use Rattle.rules.proofs.Tests.{same}
 use Rattle.laws.proofs.Occurrences.{occ-unequal}
+use Rattle.laws.proofs.Groups.{range-parts}
 
 pub sum-none : (f : ℕ → ℕ) → ((k : ℕ) → f k ≡ 0) → (ks : List ℕ) → sumOf f ks ≡ 0
 unfolding sumOf
@@ -35,6 +36,22 @@ parts-of-sum f k j (i ∷ ks) ne l u =
     (λ (n′ : j ≡ i → ⊥). omega (arith, parts-of-sum f k j ks ne (omega (arith, occ-unequal k i ks n)) (omega (arith, occ-unequal j i ks n′))))
     (same j i))
     (same k i)
+
+-- over a range, in two parts and under other numbers
+sum-both : (f : ℕ → ℕ) (ks js : List ℕ) → sumOf f (ks ++ js) ≡ sumOf f ks + sumOf f js
+unfolding sumOf
+sum-both f [] js = omega arith
+sum-both f (k ∷ ks) js = omega (arith, sum-both f ks js)
+
+pub sum-parts : (f : ℕ → ℕ) (a n m : ℕ) → sumOf f (range a (n + m)) ≡ sumOf f (range a n) + sumOf f (range (a + n) m)
+sum-parts f a n m = ap (sumOf f) (range-parts a n m) ∙ sum-both f (range a n) (range (a + n) m)
+
+pub sum-moved : (f : ℕ → ℕ) (a b n : ℕ) → sumOf f (range (a + b) n) ≡ sumOf (λ k. f (a + k)) (range b n)
+unfolding sumOf range
+sum-moved f a b zero = refl
+sum-moved f a b (suc n) =
+    let e : suc (a + b) ≡ a + suc b = omega arith in
+    ap (λ (x : ℕ). f (a + b) + x) (ap (λ (k : ℕ). sumOf f (range k n)) e ∙ sum-moved f a (suc b) n)
 
 -- flags of n numbers add up to n at most
 pub sum-flags : (f : ℕ → ℕ) (a n : ℕ) → ((k : ℕ) → a ≤ k → k < a + n → f k ≤ 1) → sumOf f (range a n) ≤ n

@@ -4,6 +4,7 @@ use Rattle.rules.specs.Lists.{_≡_, ℕ, _+_, _/_, _%_, List, [], _∷_, _++_,
 use Rattle.rules.specs.Hall.{mainHall, mostTokens}
 use Rattle.rules.specs.declared.Entry.{Entry}
 use Rattle.rules.specs.declared.Reply.{Reply}
+use Rattle.rules.specs.Tape.{entries}
 use Rattle.book.specs.declared.forms.Form.{Form}
 use Rattle.book.specs.declared.forms.Form.the-variants.{Plain}
 use Rattle.book.proofs.writing.make_empty.Reads as make-empty
@@ -61,11 +62,13 @@ pub data StepCalls (f : Form) (ts : List ℕ) : List ℕ → List Entry → List
   more : {b next b′ : List ℕ} {e : Entry} {es : List Entry} {r : Reply} {vs ss : List ℕ}
       → StepCall f ts b e r next → StepCalls f ts next es vs ss b′ → StepCalls f ts b (e ∷ es) (r .verdict ∷ vs) (r .second ∷ ss) b′
 
--- any number of granted runs and of steps, in any order, each over the book that the one before left
-pub data Worked (f : Form) (ts b : List ℕ) : List ℕ → Type 1 where
-  begun : Worked f ts b b
-  _run-by_ : {next b′ tape vs ss vs′ ss′ : List ℕ} → Worked f ts b next → RunCall f ts next tape vs ss 0 b′ vs′ ss′ → Worked f ts b b′
-  _stepped-by_ : {next b′ : List ℕ} {e : Entry} {r : Reply} → Worked f ts b next → StepCall f ts next e r b′ → Worked f ts b b′
+-- any number of granted runs and of steps, in any order, each over the book that the one before left: likewise of all of them
+pub data Worked (f : Form) (ts b : List ℕ) : List Entry → List ℕ → List ℕ → List ℕ → Type 1 where
+  begun : Worked f ts b [] [] [] b
+  _run-by_ : {next b′ tape v x v′ x′ vs ss : List ℕ} {es : List Entry} → Worked f ts b es vs ss next → RunCall f ts next tape v x 0 b′ v′ x′
+      → Worked f ts b (es ++ entries (length v) tape) (vs ++ v′) (ss ++ x′) b′
+  _stepped-by_ : {next b′ vs ss : List ℕ} {es : List Entry} {e : Entry} {r : Reply} → Worked f ts b es vs ss next → StepCall f ts next e r b′
+      → Worked f ts b (es ++ e ∷ []) (vs ++ r .verdict ∷ []) (ss ++ r .second ∷ []) b′
 
 infixl 20 _run-by_
 infixl 20 _stepped-by_

@@ -17,3 +17,4 @@ pub mod Named
 pub mod Spent
 pub mod Determined
 pub mod Shaken
+pub mod Balance

@@ -26,7 +26,7 @@ dealing-counted h ts (x ∷ []) own view a n l = absurd (omega arith)
 dealing-counted h ts (x ∷ y ∷ b) own view a n l = refl
 
 -- what is struck from a list stands in it no more
-struck : (t : ℕ) (gone xs : List ℕ) → isIn t gone ≡ true → occ t (without gone xs) ≡ 0
+pub struck : (t : ℕ) (gone xs : List ℕ) → isIn t gone ≡ true → occ t (without gone xs) ≡ 0
 unfolding without occ
 struck t gone [] e = refl
 struck t gone (x ∷ xs) e = go (isIn x gone) refl (struck t gone xs e)
