@@ -62,7 +62,8 @@ pub data StepCalls (f : Form) (ts : List ℕ) : List ℕ → List Entry → List
   more : {b next b′ : List ℕ} {e : Entry} {es : List Entry} {r : Reply} {vs ss : List ℕ}
       → StepCall f ts b e r next → StepCalls f ts next es vs ss b′ → StepCalls f ts b (e ∷ es) (r .verdict ∷ vs) (r .second ∷ ss) b′
 
--- any number of granted runs and of steps, in any order, each over the book that the one before left: likewise of all of them
+-- any number of granted runs and of steps, in any order, each over the book that the one before left: all their records, all their
+-- verdicts, all their second numbers, and the last book
 pub data Worked (f : Form) (ts b : List ℕ) : List Entry → List ℕ → List ℕ → List ℕ → Type 1 where
   begun : Worked f ts b [] [] [] b
   _run-by_ : {next b′ tape v x v′ x′ vs ss : List ℕ} {es : List Entry} → Worked f ts b es vs ss next → RunCall f ts next tape v x 0 b′ v′ x′

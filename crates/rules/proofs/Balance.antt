@@ -1,6 +1,7 @@
 -- The yearly balance: what a step adds to each side, that a refused one adds nothing, and tapes one after the other.
 use mathlib.Core.Path.{_≡_, refl, sym, ap, _∙_}
 use mathlib.Core.List.{append-assoc}
+use mathlib.Core.Logic.{_⊎_, ⊎-elim}
 use native.Mathlib.Omega.{arith}
 use borrow.Author.Tests.{ne-eqb}
 use Rattle.rules.specs.declared.Hall.{Hall}
@@ -15,13 +16,9 @@ use Rattle.rules.proofs.Tests.{and-no}
 
 -- ---- what comes in
 module _ (e : Entry) (es : List Entry) (vs : List ℕ) where
-  pub join-brings : e .kind ≡ kindOf JoinCustomer → brought (e ∷ es) (0 ∷ vs) ≡ e .amount + brought es vs
+  pub paid-brings : (e .kind ≡ kindOf JoinCustomer) ⊎ (e .kind ≡ kindOf TopUp) → brought (e ∷ es) (0 ∷ vs) ≡ e .amount + brought es vs
   unfolding brought
-  join-brings k = rw k
-
-  pub top-up-brings : e .kind ≡ kindOf TopUp → brought (e ∷ es) (0 ∷ vs) ≡ e .amount + brought es vs
-  unfolding brought
-  top-up-brings k = rw k
+  paid-brings = ⊎-elim (λ (k : e .kind ≡ kindOf JoinCustomer). rw k) (λ (k : e .kind ≡ kindOf TopUp). rw k)
 
   pub other-brings : (e .kind ≡ kindOf JoinCustomer → ⊥) → (e .kind ≡ kindOf TopUp → ⊥) → brought (e ∷ es) (0 ∷ vs) ≡ brought es vs
   unfolding brought
