@@ -12,14 +12,11 @@ use Rattle.rules.specs.Walk.{listOf, listGood, readList}
 use Rattle.rules.proofs.Words.{length-toWords}
 use Rattle.rules.proofs.Tests.{parts}
 use Rattle.rules.proofs.Answering.{passed}
+use Rattle.laws.proofs.Runs.{good-list}
 
 pub list-good : (bs : List ℕ) → listGood bs ≡ true → goodList (listOf bs) ≡ true
 unfolding listGood
 list-good bs e = search parts
-
-few : (ts : List ℕ) → goodList ts ≡ true → length ts ≤ mostTokens
-unfolding goodList
-few ts e = search parts
 
 module _ (bs out : List ℕ) (number : ℕ) (new : List ℕ) (read : Gives (readList bs out) number new) where
   abbrev test : Bool
@@ -49,6 +46,6 @@ module _ (bs out : List ℕ) (number : ℕ) (new : List ℕ) (read : Gives (read
       go : (t : Bool) → listGood bs ≡ t → listGood bs ≡ false
       go false e = e
       go true e =
-          let n : length (listOf bs) ≤ mostTokens = few (listOf bs) (list-good bs e) in
+          let n : length (listOf bs) ≤ mostTokens = good-list (listOf bs) (list-good bs e) .0 in
           let l : length bs / 4 ≤ length out = omega (arith, n, length-toWords (length bs / 4) bs) in
           absurd (some (read .number ∙ rw (e, le-leb (length bs / 4) (length out) l)))

@@ -9,7 +9,7 @@ use Rattle.rules.specs.declared.Hall.{Hall}
 use Rattle.rules.specs.Lists.{ℕ, _+_, true, _&&_, List, [], length, take, every, occ, isIn, allDifferent}
 use Rattle.rules.specs.Hall.{mostHeld, Carnet, View, Till, Line, number, records, spendable}
 use Rattle.rules.specs.Records.{words, inUse, amount, count, sales, held, recordAt, blockAt}
-use Rattle.rules.specs.Sound.{goodList, shaped, deskGood, bare, placeGood, recordGood}
+use Rattle.rules.specs.Sound.{shaped, deskGood, bare, placeGood, recordGood}
 use Rattle.rules.specs.Steps.{dealt, left, fresh}
 use Rattle.rules.proofs.Tests.{below, parts}
 use Rattle.laws.proofs.Occurrences.{occ-split, different-once, once-different}
@@ -17,6 +17,7 @@ use Rattle.laws.proofs.Sums.{parts-of-sum}
 use Rattle.laws.proofs.Tokens.{every-none, every-more, every-self, take-occ}
 use Rattle.laws.proofs.Blocks.{block-long, block-past}
 use Rattle.laws.proofs.Reflect.{Book}
+use Rattle.laws.proofs.Runs.{good-list}
 use Rattle.laws.proofs.Asked.{record-shaped, record-dealt, record-place, record-test, Shaped, shaped-facts, held-long, place-desk, place-carnet, place-till, place-line, LineGood, line-facts}
 
 -- the tokens xs are among the d dealt
@@ -80,8 +81,7 @@ module _ (h : Hall) (ts b : List ℕ) (ok : Book h ts b) where
 
   -- ---- a token that isn't dealt stands nowhere; a fresh one isn't dealt
   pub list-different : allDifferent ts ≡ true
-  unfolding goodList
-  list-different = let g : goodList ts ≡ true = ok .1 .tokens in search parts
+  list-different = good-list ts (ok .1 .tokens) .1
 
   pub nowhere : (t : ℕ) → occ t (take (dealt b) ts) ≡ 0 → (k : ℕ) → occ t (held (recordAt k b)) ≡ 0
   unfolding held occ

@@ -1,15 +1,18 @@
 -- Unbroken runs of a token list in which no token stands twice.
 use mathlib.Core.Path.{_≡_, refl, sym, ap, _∙_}
+use mathlib.Core.Logic.{⊎-elim}
 use Prim.Native.Nat.{_≤_, _<_}
 use native.Mathlib.Omega.{arith}
 use lib.ListN.{length-take, length-drop}
 use lib.Seq.{take-take, drop-drop, take-nil, getD-take, getD-drop}
 use borrow.Author.Tests.{eq-eqb, ne-eqb, eqb-true}
-use Rattle.rules.specs.Lists.{ℕ, zero, suc, _+_, _-_, Bool, true, false, cond, eqb, List, [], _∷_, length, take, drop, getD, occ, allDifferent, firstOf, placeOf, sameList}
+use Rattle.rules.specs.Lists.{ℕ, zero, suc, _+_, _-_, min, Bool, true, false, cond, eqb, List, [], _∷_, length, take, drop, getD, occ, allDifferent, firstOf, placeOf, sameList}
 use Rattle.rules.specs.Records.{count, cells, held, filled, made}
+use Rattle.rules.specs.Hall.{mostTokens}
+use Rattle.rules.specs.Sound.{goodList}
 use Rattle.rules.specs.Slips.{openSlip, isRun}
-use Rattle.rules.proofs.Tests.{and-left, and-right, true-and}
-use Rattle.laws.proofs.Occurrences.{occ-equal}
+use Rattle.rules.proofs.Tests.{parts, same, and-left, and-right, true-and}
+use Rattle.laws.proofs.Occurrences.{occ-equal, occ-split}
 use Rattle.laws.proofs.Made.{made-held}
 
 pub same-list : (xs ys : List ℕ) → sameList xs ys ≡ true → xs ≡ ys
@@ -59,6 +62,33 @@ place-at (y ∷ ys) e (suc j) l =
     let m : j < length ys = omega arith in
     let ne : getD ys j 0 ≡ y → ⊥ = λ q. omega (arith, stands-at ys j m, ap (λ (k : ℕ). occ k ys) q) in
     rw (ne-eqb (getD ys j 0) y ne) (ap suc (place-at ys (and-right (eqb (occ y ys) 0) (allDifferent ys) e) j m))
+
+-- a token's place has it, where it has one
+pub place-there : (x : ℕ) (ts : List ℕ) → placeOf x ts < length ts → getD ts (placeOf x ts) 0 ≡ x
+unfolding firstOf placeOf
+place-there x [] l = absurd (omega arith)
+place-there x (y ∷ ys) l =
+    ⊎-elim
+    (λ (q : x ≡ y). rw (eq-eqb x y q) (sym q))
+    (λ (q : x ≡ y → ⊥). rw (ne-eqb x y q) (place-there x ys (let m = rw (ne-eqb x y q) at l in omega arith)))
+    (same x y)
+
+-- how often a number stands in the first m of a list in which none stands twice
+pub front-occ : (ts : List ℕ) → allDifferent ts ≡ true → (x m : ℕ) → m ≤ length ts → occ x (take m ts) ≡ min 1 (m - placeOf x ts)
+unfolding allDifferent occ firstOf placeOf
+front-occ ts e x zero l = omega arith
+front-occ [] e x (suc m) l = absurd (omega arith)
+front-occ (y ∷ ys) e x (suc m) l =
+    let z : occ y ys ≡ 0 = search parts in
+    ⊎-elim
+    (λ (q : x ≡ y). rw (eq-eqb x y q) (omega (arith, occ-split y m ys, ap (λ (i : ℕ). occ i (take m ys)) q)))
+    (λ (q : x ≡ y → ⊥). rw (ne-eqb x y q) (omega (arith, front-occ ys (search parts) x m (omega arith))))
+    (same x y)
+
+-- a good list is short, and no token stands twice in it
+pub good-list : (ts : List ℕ) → goodList ts ≡ true → (length ts ≤ mostTokens) × (allDifferent ts ≡ true)
+unfolding goodList
+good-list ts e = (search parts, search parts)
 
 -- ---- the test
 pub run-test : (ts r : List ℕ) → held r ≡ openSlip ts (getD (cells r) 0 0) (count r) → isRun ts r ≡ true

@@ -1,9 +1,13 @@
--- Lists of zeros.
+-- Lists of zeros, and a list that is wiped.
 use mathlib.Core.Path.{_≡_, refl, sym, ap, _∙_}
-use Prim.Native.Nat.{_≤_}
+use mathlib.Core.List.{append-nil}
+use Prim.Native.Nat.{_≤_, _<_}
 use native.Mathlib.Omega.{arith}
+use lib.ListN.{length-set}
+use lib.Seq.{drop-length}
+use borrow.Author.Fill.{fill-more}
 use borrow.Author.Tests.{eqb-true}
-use Rattle.rules.specs.Lists.{ℕ, zero, suc, _-_, true, eqb, List, [], _∷_, length, take, drop, getD, replicate, every, allZero}
+use Rattle.rules.specs.Lists.{ℕ, zero, suc, _+_, _-_, true, eqb, List, [], _∷_, _++_, length, take, drop, getD, set, replicate, every, allZero}
 use Rattle.rules.proofs.Tests.{and-left, and-right}
 
 abbrev pub zeros : ℕ → List ℕ
@@ -37,3 +41,21 @@ pub take-zeros : (m n : ℕ) → m ≤ n → take m (zeros n) ≡ zeros m
 take-zeros zero n l = refl
 take-zeros (suc m) zero l = absurd (omega arith)
 take-zeros (suc m) (suc n) l = ap (λ (x : List ℕ). 0 ∷ x) (take-zeros m n (omega arith))
+
+-- ---- a list wiped from its front: the first i are zero, and the rest is as it was
+pub record Wiping (s : List ℕ) (i : ℕ) (t : List ℕ) : Type 0 where
+  pub inside : i ≤ length s
+  pub size : length t ≡ length s
+  pub cells : t ≡ zeros i ++ drop i s
+
+pub wiping-first : (s : List ℕ) → Wiping s 0 s
+wiping-first s = record { inside = omega arith; size = refl; cells = refl }
+
+module _ {s : List ℕ} {i : ℕ} {t : List ℕ} (w : Wiping s i t) where
+  pub wiping-next : i < length t → Wiping s (i + 1) (set t i 0)
+  wiping-next l =
+      let m : i < length s = omega (arith, w .size) in
+      record { inside = omega arith; size = simp length-set (w .size); cells = rw (w .cells) (fill-more i 0 s m) }
+
+  pub wiping-end : length t ≤ i → t ≡ zeros (length s)
+  wiping-end l = let e : i ≡ length s = omega (arith, w .inside, w .size) in w .cells ∙ rw (e, drop-length, append-nil)

@@ -4,8 +4,7 @@ ghost use mathlib.Core.Path.{_≡_};
 ghost use Prim.Native.Nat.{_+_, _≤_};
 ghost use lib.ListN.{length};
 ghost use Rattle.rules.specs.Lists.{[], _∷_};
-ghost use Rattle.rules.specs.Text.{digits, decimal, spaced};
-ghost use Rattle.rules.specs.Listing.{stepLine, cutLine};
+ghost use Rattle.rules.specs.Listing.{digits, decimal, spaced, stepLine, cutLine};
 ghost use Rattle.listing.specs.Written.{written};
 
 // The last k digits of a number, or all where it has fewer.

@@ -4,8 +4,7 @@ use Rattle.rules.specs.Lists.{ℕ, List, [], _∷_, _++_}
 use Rattle.rules.specs.Hall.{Hall}
 use Rattle.rules.specs.Records.{made}
 use Rattle.rules.specs.Form.{Form}
-use Rattle.rules.specs.Text.{decimal}
-use Rattle.rules.specs.Listing.{stepLine, cutLine, accounts}
+use Rattle.rules.specs.Listing.{decimal, stepLine, cutLine, accounts}
 use Rattle.rules.specs.Walk.{refusedLine, walk}
 use Rattle.rules.proofs.Unfolded.{all}
 

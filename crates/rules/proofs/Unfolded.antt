@@ -8,8 +8,7 @@ use Rattle.rules.specs.Tape.{entryOf, wellFormed, inHall, entryRules, en
 use Rattle.rules.specs.Steps.{putAll, joining, dealing, updating, stocking, soldLine, selling, authenticating, settling, clearing, changes, effect}
 use Rattle.rules.specs.Verdicts.{table, verdict, second, step, steps, oneEach, run}
 use Rattle.rules.specs.Slips.{openSlip, openSlips, slipTokens, openedLine, openLines, openBook, slipSum, slipsGood, slipLineGood, isRun, slipBy, slipSound, slipOf, slipPairs}
-use Rattle.rules.specs.Text.{digits, spaced}
-use Rattle.rules.specs.Listing.{stepLine, stepLines, cutLine, partyLine, customerLine, benchLine, accounts}
+use Rattle.rules.specs.Listing.{digits, spaced, stepLine, stepLines, cutLine, partyLine, customerLine, benchLine, accounts}
 use Rattle.rules.specs.Walk.{listGood, walk}
 
 unfoldable pub all : Bool

@@ -11,7 +11,6 @@ pub mod Steps
 pub mod Verdicts
 pub mod Slips
 pub mod Agree
-pub mod Text
 pub mod Listing
 pub mod Walk
 pub mod Balance

@@ -1,9 +1,22 @@
 -- The listing: a line for each step, then one for each joined customer and each joined bench, by rising number.
-use Rattle.rules.specs.Lists.{ℕ, suc, _%_, cond, eqb, List, [], _∷_, _++_, range, sumOf, joined}
+use Rattle.rules.specs.Lists.{ℕ, zero, suc, _+_, _/_, _%_, cond, ltb, eqb, List, [], _∷_, _++_, range, sumOf, joined}
 use Rattle.rules.specs.Hall.{Hall, Carnet, View, BenchView, Till, Line, number, records}
 use Rattle.rules.specs.Records.{inUse, amount, count, rows}
 use Rattle.rules.specs.Tape.{Entry}
-use Rattle.rules.specs.Text.{decimal, spaced}
+
+-- ---- numbers as text: a number's decimal digits, the last k of them at most
+unfoldable pub digits : ℕ → ℕ → List ℕ
+digits zero n = []
+digits (suc k) n = cond (ltb n 10) ((48 + n) ∷ []) (digits k (n / 10) ++ ((48 + n % 10) ∷ []))
+
+-- 20 are enough for 64 bits
+abbrev pub decimal : ℕ → List ℕ
+decimal n = digits 20 n
+
+-- each number behind a space, then the line's end
+unfoldable pub spaced : List ℕ → List ℕ
+spaced [] = 10 ∷ []
+spaced (n ∷ ns) = 32 ∷ decimal n ++ spaced ns
 
 -- ---- the steps: place, kind byte and verdict of each
 unfoldable pub stepLine : ℕ → ℕ → ℕ → List ℕ

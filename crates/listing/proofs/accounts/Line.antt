@@ -5,8 +5,7 @@ use Rattle.rules.specs.Lists.{ℕ, List, [], _∷_, getD, range}
 use Rattle.rules.specs.declared.Hall.{Hall}
 use Rattle.rules.specs.Hall.{Carnet, View, BenchView, Till, Line, number}
 use Rattle.rules.specs.Records.{inUse, amount, count, recordAt}
-use Rattle.rules.specs.Text.{spaced}
-use Rattle.rules.specs.Listing.{partyLine, customerLine, benchLine}
+use Rattle.rules.specs.Listing.{spaced, partyLine, customerLine, benchLine}
 use Rattle.sound.specs.Together.{sumIn}
 use Rattle.listing.proofs.text.Writing.{Wrote, nothing}
 

@@ -6,7 +6,7 @@ use native.Mathlib.Omega.{arith}
 use lib.ListN.{length-append, set}
 use borrow.Author.Tests.{lt-ltb, le-ltb}
 use Rattle.rules.specs.Lists.{ℕ, zero, suc, _+_, _-_, _/_, _%_, List, [], _∷_, _++_, length}
-use Rattle.rules.specs.Text.{digits, decimal, spaced}
+use Rattle.rules.specs.Listing.{digits, decimal, spaced}
 use Rattle.listing.specs.Written.{written}
 use Rattle.rules.proofs.Tests.{below}
 use Rattle.listing.proofs.text.Writing.{Wrote, written-length, nothing, goes-on, one-byte}

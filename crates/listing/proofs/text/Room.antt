@@ -3,8 +3,7 @@ use Prim.Native.Nat.{_≤_}
 use native.Mathlib.Omega.{arith}
 use lib.ListN.{length-append}
 use Rattle.rules.specs.Lists.{ℕ, _+_, _*_, _%_, Bool, true, false, cond, eqb, List, [], _∷_, length}
-use Rattle.rules.specs.Text.{spaced}
-use Rattle.rules.specs.Listing.{stepLine, cutLine, partyLine}
+use Rattle.rules.specs.Listing.{spaced, stepLine, cutLine, partyLine}
 use Rattle.listing.proofs.text.Digits.{digits-few}
 
 spaced-room : (ns : List ℕ) → length (spaced ns) ≤ 21 * length ns + 1

@@ -11,11 +11,11 @@ use Rattle.rules.specs.Slips.{openSlip, openSlips, slipTokens, slipsGood}
 use Rattle.rules.proofs.Tests.{parts, below, alike, true-and, and-yes, and-no}
 use Rattle.laws.proofs.Occurrences.{occ-append, different-once, once-different}
 use Rattle.laws.proofs.Tokens.{every-both, every-in, in-every}
-use Rattle.laws.proofs.Runs.{place-le, place-at}
+use Rattle.laws.proofs.Runs.{place-le, place-at, place-there}
 use Rattle.sound.specs.Together.{apart}
 use Rattle.sound.proofs.groups.Grouped.{apart-in, in-apart}
 use Rattle.slips.specs.Alone.{firsts, alone, allAlone}
-use Rattle.slips.proofs.alone.Parted.{place-there, part-start, part-next}
+use Rattle.slips.proofs.alone.Parted.{part-start, part-next}
 
 -- the later tokens of k slips
 laters : List ℕ → ℕ → List ℕ → List ℕ

@@ -1,33 +1,10 @@
 -- How often a number stands in a part of a list in which none stands twice.
-use mathlib.Core.Path.{_≡_, sym, ap}
-use mathlib.Core.Logic.{⊎-elim}
-use Prim.Native.Nat.{_≤_, _<_}
+use mathlib.Core.Path.{_≡_}
+use Prim.Native.Nat.{_≤_}
 use native.Mathlib.Omega.{arith}
-use borrow.Author.Tests.{eq-eqb, ne-eqb}
-use Rattle.rules.specs.Lists.{ℕ, zero, suc, _+_, _-_, min, true, List, [], _∷_, length, take, drop, getD, occ, allDifferent, firstOf, placeOf}
-use Rattle.rules.proofs.Tests.{parts, same}
-use Rattle.laws.proofs.Occurrences.{occ-split}
+use Rattle.rules.specs.Lists.{ℕ, suc, _+_, _-_, true, List, length, take, drop, occ, allDifferent, placeOf}
 use Rattle.laws.proofs.Tokens.{take-occ}
-
-pub place-there : (x : ℕ) (ts : List ℕ) → placeOf x ts < length ts → getD ts (placeOf x ts) 0 ≡ x
-unfolding firstOf placeOf
-place-there x [] l = absurd (omega arith)
-place-there x (y ∷ ys) l =
-    ⊎-elim
-    (λ (q : x ≡ y). rw (eq-eqb x y q) (sym q))
-    (λ (q : x ≡ y → ⊥). rw (ne-eqb x y q) (place-there x ys (let m = rw (ne-eqb x y q) at l in omega arith)))
-    (same x y)
-
-front-occ : (ts : List ℕ) → allDifferent ts ≡ true → (x m : ℕ) → m ≤ length ts → occ x (take m ts) ≡ min 1 (m - placeOf x ts)
-unfolding allDifferent occ firstOf placeOf
-front-occ ts e x zero l = omega arith
-front-occ [] e x (suc m) l = absurd (omega arith)
-front-occ (y ∷ ys) e x (suc m) l =
-    let z : occ y ys ≡ 0 = search parts in
-    ⊎-elim
-    (λ (q : x ≡ y). rw (eq-eqb x y q) (omega (arith, occ-split y m ys, ap (λ (i : ℕ). occ i (take m ys)) q)))
-    (λ (q : x ≡ y → ⊥). rw (ne-eqb x y q) (omega (arith, front-occ ys (search parts) x m (omega arith))))
-    (same x y)
+use Rattle.laws.proofs.Runs.{front-occ}
 
 module _ (ts : List ℕ) (good : allDifferent ts ≡ true) where
   front-more : (x y m n : ℕ) → m ≤ length ts → n ≤ length ts → m - placeOf x ts ≤ n - placeOf y ts
