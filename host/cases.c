@@ -9,15 +9,17 @@
 #include "both.h"
 
 enum { LIST = GS_MOST_TOKENS + 1, WORDS = GS_BOOK_WORDS + 1, BYTES = GS_BOOK_BYTES + 4, MOST_VERDICTS = 32, TEXT = 1 << 20 };
-enum { AS_VERDICTS = MOST_VERDICTS + 1 };
+enum { AS_VERDICTS = MOST_VERDICTS + 1, ENTRIES = GS_INDEX_ENTRIES + 1, MOST_NUMBERS = 32 };
 
 /* What a row is tried on, and what it has said so far: its last five numbers, oldest first; how much is lent of the list,
-   of the book, of the tape to be written, and to a run for second numbers; where the tape ends. */
+   of the book, of the tape to be written, to a run for second numbers, and of the index; where the tape ends; and how many
+   numbers are to be looked up. */
 static struct trial {
     enum form form;
-    uint32_t list[LIST], book[WORDS], said[5];
+    uint32_t list[LIST], book[WORDS], said[5], numbers[MOST_NUMBERS];
+    uint16_t index[ENTRIES];
     uint8_t bytes[BYTES];
-    size_t tokens, words, part, seconds, end;
+    size_t tokens, words, part, seconds, entries, end, asked;
 } t;
 
 static const struct ledger *const LIBRARY = &LEDGERS[PROVED];
@@ -69,12 +71,36 @@ static void put_run(uint32_t record, uint32_t amount, uint32_t word3, uint32_t f
         store(place(record, 4) + i, first + i);
 }
 
-/* The book is opened in place, from a copy. */
-static uint8_t open_book(void)
+/* The book is opened in place, from a copy, with the index or without. */
+static uint8_t open_book(int indexed)
 {
     static uint32_t slips[WORDS];
     memcpy(slips, t.book, sizeof slips);
+    if (indexed)
+        return LIBRARY->open_indexed(t.list, t.tokens, t.index, t.entries, slips, t.words, t.book, t.words);
     return LIBRARY->open(t.list, t.tokens, slips, t.words, t.book, t.words);
+}
+
+/* ---- the index ---- */
+
+static size_t filled(void)
+{
+    size_t count = 0;
+    for (size_t entry = 0; entry < t.entries; entry++)
+        count += t.index[entry] != 0;
+    return count;
+}
+
+static void look_up(size_t places)
+{
+    uint32_t found[MOST_NUMBERS];
+    size_t n = smaller(places, MOST_NUMBERS);
+    for (size_t i = 0; i < n; i++)
+        found[i] = 99;
+    show(LIBRARY->index_places(t.list, t.tokens, t.index, t.entries, t.numbers, t.asked, found, n));
+    for (size_t i = 0; i < n; i++)
+        show(found[i]);
+    printf(" |");
 }
 
 /* ---- the tape, or a book on file ---- */
@@ -110,6 +136,36 @@ static void run(size_t verdicts, size_t bytes)
 
 /* ---- what a sign does with the numbers before it ---- */
 
+static void on_index(char sign, uint32_t a, uint32_t b)
+{
+    switch (sign) {
+    case '(':
+        show(LIBRARY->index_build(t.list, t.tokens, t.index, t.entries));
+        break;
+    case ')':
+        show(LIBRARY->index_check(t.list, t.tokens, t.index, t.entries));
+        break;
+    case '[':
+        if (a < ENTRIES)
+            t.index[a] = (uint16_t)b;
+        break;
+    case ']':
+        show(b < ENTRIES ? t.index[b] : 0);
+        t.said[4]++;
+        break;
+    case '\'':
+        show(filled());
+        break;
+    case '_':
+        if (t.asked < MOST_NUMBERS)
+            t.numbers[t.asked++] = b;
+        break;
+    case '"':
+        look_up(b);
+        break;
+    }
+}
+
 static void on_bytes(char sign, uint32_t a, uint32_t b, const uint8_t *five)
 {
     size_t n = smaller(b, BYTES), end = smaller(t.end, BYTES);
@@ -134,6 +190,8 @@ static void on_bytes(char sign, uint32_t a, uint32_t b, const uint8_t *five)
     case '<':
         show(LIBRARY->from_bytes(t.bytes, n, t.book, t.words));
         break;
+    default:
+        on_index(sign, a, b);
     }
 }
 
@@ -161,7 +219,8 @@ static void on_book(char sign, const uint32_t *s, const uint8_t *five)
         show(LIBRARY->sound[t.form](t.list, t.tokens, t.book, t.words));
         break;
     case '/':
-        show(open_book());
+    case '+':
+        show(open_book(sign == '+'));
         break;
     case ';':
         show_both(LIBRARY->step[t.form](t.list, t.tokens, t.book, t.words, five[0], five[1], five[2], five[3], s[4]));
@@ -189,6 +248,8 @@ static void on_sign(char sign)
         t.part = s[4];
     } else if (sign == '|') {
         t.seconds = smaller(s[4], MOST_VERDICTS);
+    } else if (sign == '{') {
+        t.entries = smaller(s[4], ENTRIES);
     } else {
         on_book(sign, s, five);
     }
@@ -196,7 +257,7 @@ static void on_sign(char sign)
 
 /* ---- rows: a letter for the books it is tried on, a name up to a colon, and what is done ---- */
 
-/* Token 100 + p stands at place p, but 0, a token as good as any, at place 140. */
+/* Token 100 + p stands at place p, but 0, a token as good as any, at place 140. The index isn't built. */
 static void begin(enum form form, const uint32_t *loaded)
 {
     memset(&t, 0, sizeof t);
@@ -205,9 +266,12 @@ static void begin(enum form form, const uint32_t *loaded)
     t.words = GS_BOOK_WORDS;
     t.part = 8;
     t.seconds = AS_VERDICTS;
+    t.entries = GS_INDEX_ENTRIES;
     memcpy(t.book, loaded, 4 * GS_BOOK_WORDS);
     for (uint32_t i = 0; i < LIST; i++)
         t.list[i] = i == 140 ? 0 : 100 + i;
+    for (size_t entry = 0; entry < ENTRIES; entry++)
+        t.index[entry] = 99;
 }
 
 static void try_row(enum form form, uint32_t *loaded, const char *row, size_t length)

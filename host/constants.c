@@ -6,6 +6,7 @@
 #include <string.h>
 
 static uint32_t tokens[GS_MOST_TOKENS + 1], book[GS_BOOK_WORDS + 1], expected[GS_BOOK_WORDS];
+static uint16_t index_of_list[GS_INDEX_ENTRIES + 1];
 static uint8_t bytes[GS_BOOK_BYTES + 1], tape[12 * GS_TAPE_BYTES], verdicts[12], seconds[12];
 static int differences;
 
@@ -26,6 +27,8 @@ static void lengths(void)
     is("to a byte more", gs_book_to_bytes(book, GS_BOOK_WORDS, bytes, GS_BOOK_BYTES + 1), 1);
     is("the longest list", gs_sound(tokens, GS_MOST_TOKENS, book, GS_BOOK_WORDS), 0);
     is("a list too long", gs_sound(tokens, GS_MOST_TOKENS + 1, book, GS_BOOK_WORDS), 1);
+    is("an index", gs_index_build(tokens, GS_MOST_TOKENS, index_of_list, GS_INDEX_ENTRIES), 0);
+    is("an index, an entry longer", gs_index_build(tokens, GS_MOST_TOKENS, index_of_list, GS_INDEX_ENTRIES + 1), 1);
     is("a tape's record", gs_write(2, 0, 0, 0, 0, tape, GS_TAPE_BYTES), 0);
     is("a byte more", gs_write(2, 0, 0, 0, 0, tape, GS_TAPE_BYTES + 1), 16);
     is("the last customer", gs_write(1, 0, GS_CUSTOMERS - 1, 0, 0, tape, GS_TAPE_BYTES), 0);

@@ -2,8 +2,8 @@
 
        differ SEED CASES
 
-   Each case draws a list, a book of either form, a tape and lengths; every call is made to both, and verdicts, second
-   numbers, answers and all lent cells are compared. It ends with status 1 at the first difference, or if a number that can
+   Each case draws a list, an index, a book of either form, a tape and lengths; every call is made to both, and verdicts,
+   second numbers, answers and all lent cells are compared. It ends with status 1 at the first difference, or if a number that can
    be answered never was: a test that idles must not pass. */
 #include <stdio.h>
 #include <stdlib.h>
@@ -12,7 +12,7 @@
 #include "draw.h"
 #include "hold.h"
 
-static const struct counts RIGHT = {0, GS_BOOK_WORDS, GS_BOOK_WORDS, 0, 0, 0, GS_BOOK_BYTES, 5, 8};
+static const struct counts RIGHT = {0, GS_BOOK_WORDS, GS_BOOK_WORDS, 0, 0, 0, GS_BOOK_BYTES, 5, 8, GS_INDEX_ENTRIES, 0, 0};
 
 /* ---- how often each number was answered ---- */
 
@@ -20,6 +20,7 @@ enum { NUMBERS = 18 };
 enum tally {
     PLAIN_STEPS, SLIP_STEPS, PLAIN_SOUND, SLIP_SOUND, OPENED, READER, WRITER, STOCKS, HANDSHAKES, CLEARS, TOP_UPS,
     LIVE_CLEARS, PLAIN_PLACES, SLIP_PLACES, WITHIN_SLIPS, PLAIN_DROPPED, SLIP_DROPPED, WHAT_LIVED, IN_PART, ODD_SECONDS,
+    BUILT, CHECKED, FOUND, INDEX_OPENED, WAYS, SPOILT,
     TALLIES
 };
 enum { STOCK = 5, DESK_AUTHENTICATES = 8, CLEAR, TOP_UP, CLEAR_LIVING };
@@ -33,6 +34,8 @@ static const struct {
     {"handshakes", 0x2602f}, {"clears", 0x2806f},      {"top ups", 0xaf},     {"live clears", 0x2006f},
     {"plain places", 7},     {"slip places", 7},       {"within slips", 6},   {"plain drops", 7},
     {"slip drops", 7},       {"what lived", 0xf},      {"in part", 3},        {"odd seconds", 0x10002},
+    {"index built", 3},      {"index checked", 3},     {"places found", 3},   {"index opened", 3},
+    {"ways", 0x3f},          {"index spoilt", (1 << WAYS_TO_SPOIL) - 1},
 };
 static const enum tally STEPS[] = {PLAIN_STEPS, SLIP_STEPS}, SOUND[] = {PLAIN_SOUND, SLIP_SOUND};
 static const enum tally PLACES[] = {PLAIN_PLACES, SLIP_PLACES}, DROPPED[] = {PLAIN_DROPPED, SLIP_DROPPED};
@@ -87,7 +90,7 @@ static int print_tallies(void)
 {
     int idle = 0;
     for (int tally = 0; tally < TALLIES; tally++) {
-        printf("%-12s", ANSWERS[tally].name);
+        printf("%-13s", ANSWERS[tally].name);
         for (int number = 0; number < NUMBERS; number++) {
             if (!(ANSWERS[tally].can >> number & 1))
                 continue;
@@ -117,6 +120,13 @@ static size_t draw_listed(void)
     return draw(chance(30) ? 150 : chance(80) ? 500 : 1000);
 }
 
+/* The list's first tokens, or all, clash: mostly near the index's end, so that ways go round it. */
+static void clash(struct counts c)
+{
+    size_t first = chance(70) ? GS_INDEX_ENTRIES - 1 - draw(12) : draw(GS_INDEX_ENTRIES);
+    draw_clashing(LENT[HAND].tokens, chance(50) ? c.tokens : draw(c.tokens + 1), first, 1 + draw(6) + c.tokens / 50);
+}
+
 static void repeat_token(struct counts c)
 {
     if (c.tokens >= 2)
@@ -128,6 +138,12 @@ static struct counts with_tape(struct counts c, size_t records)
     c.tape = 8 * records;
     c.verdicts = c.seconds = records;
     return c;
+}
+
+static size_t draw_wrong(size_t right, size_t room)
+{
+    size_t wrong[] = {0, 1, right == 0 ? 0 : right - 1, right + 1, draw(room + 1)};
+    return wrong[draw(5)];
 }
 
 enum { LAST_STOCKS = 34 }; /* of 33 tokens down to none */
@@ -248,6 +264,137 @@ static void tell_lived(enum form form, struct counts c, const uint32_t *before, 
         tell(IN_PART, (uint8_t)has_part(c, before, e.bench, e.customer));
 }
 
+/* ---- the index ---- */
+
+/* A call that should get this number; with a 1 all that was lent is as it was. */
+static void expect(enum tally tally, uint8_t (*ask)(struct counts), struct counts c, uint8_t number)
+{
+    static struct lent start;
+    start = LENT[HAND];
+    uint8_t answer = tell(tally, ask(c));
+    if (answer != number)
+        disagrees(ANSWERS[tally].name, "answer", NO_PLACE, number, answer);
+    if (answer != 0 && memcmp(&start, &LENT[HAND], sizeof start) != 0)
+        disagrees(ANSWERS[tally].name, "what was lent, though refused,", NO_PLACE, 0, answer);
+}
+
+/* All that asks for an index is refused with this one. */
+static void try_wrong(struct counts c)
+{
+    expect(CHECKED, both_index_check, c, 1);
+    expect(FOUND, both_index_places, c, 1);
+    expect(INDEX_OPENED, both_open_indexed, c, 1);
+}
+
+/* Counted are tokens by where they are found, at the start of their way, further on or round the end, and then absent numbers
+   by where it ends. */
+static void tell_way(struct counts c, uint32_t number, size_t place)
+{
+    size_t start = start_of(number), entry = start;
+    while (LENT[HAND].index[entry] != 0 && LENT[HAND].index[entry] != place + 1)
+        entry = (entry + 1) % GS_INDEX_ENTRIES;
+    tell(WAYS, (uint8_t)((place < c.tokens ? 0 : 3) + (entry == start ? 0 : entry > start ? 1 : 2)));
+}
+
+/* Each number's place is the one that a walk along the list finds. */
+static void try_places(struct counts c)
+{
+    c.numbers = c.places = chance(70) ? MOST_NUMBERS : draw(MOST_NUMBERS);
+    draw_numbers(LENT[HAND].tokens, c.tokens, LENT[HAND].numbers, c.numbers);
+    share();
+    expect(FOUND, both_index_places, c, 0);
+    for (size_t i = 0; i < c.numbers; i++) {
+        size_t place = place_in(LENT[HAND].tokens, c.tokens, LENT[HAND].numbers[i]);
+        if (LENT[PROVED].places[i] != place)
+            disagrees("walked against looked up", "place", i, place, LENT[PROVED].places[i]);
+        tell_way(c, LENT[HAND].numbers[i], place);
+    }
+}
+
+/* Other lengths: of the index, and of the places alone. */
+static void try_index_lengths(struct counts c)
+{
+    struct counts wrong = c;
+    wrong.index = draw_wrong(c.index, INDEX_ROOM);
+    if (wrong.index != c.index) {
+        expect(BUILT, both_index_build, wrong, 1);
+        try_wrong(wrong);
+    }
+    c.numbers = draw(MOST_NUMBERS + 1);
+    c.places = draw_wrong(c.numbers, NUMBERS_ROOM);
+    expect(FOUND, both_index_places, c, c.numbers != c.places);
+}
+
+/* The index changed in some ways, each time from the right one, which is lent in the end. */
+static void try_spoilt(struct counts c, size_t tries)
+{
+    static uint16_t right[INDEX_ROOM];
+    memcpy(right, LENT[HAND].index, sizeof right);
+    for (; tries > 0; tries--) {
+        tell(SPOILT, (uint8_t)spoil_index(LENT[HAND].tokens, c.tokens, LENT[HAND].index));
+        share();
+        try_wrong(c);
+        memcpy(LENT[HAND].index, right, sizeof right);
+        share();
+    }
+}
+
+/* A bad list has no index, whichever it is given. */
+static void try_bad_list(struct counts c)
+{
+    expect(BUILT, both_index_build, c, 1);
+    for (int again = FIRST_ALONE; again <= EACH_TIME; again++) {
+        lay_index(LENT[HAND].tokens, c.tokens, LENT[HAND].index, (enum again)again);
+        share();
+        try_wrong(c);
+    }
+}
+
+/* Whatever the list is: its index is built, checked, looked up in and spoilt. */
+static void try_index(struct counts c, size_t spoilt)
+{
+    static uint16_t laid[GS_INDEX_ENTRIES];
+    size_t different = 0;
+    while (different < c.tokens && place_in(LENT[HAND].tokens, different, LENT[HAND].tokens[different]) == different)
+        different++;
+    share();
+    if (c.tokens > GS_MOST_TOKENS || different < c.tokens) {
+        try_bad_list(c);
+        return;
+    }
+    expect(BUILT, both_index_build, c, 0);
+    lay_index(LENT[HAND].tokens, c.tokens, laid, EACH_TIME);
+    for (size_t entry = 0; entry < GS_INDEX_ENTRIES; entry++)
+        if (LENT[PROVED].index[entry] != laid[entry])
+            disagrees("laid against built", "index", entry, laid[entry], LENT[PROVED].index[entry]);
+    expect(CHECKED, both_index_check, c, 0);
+    try_places(c);
+    try_index_lengths(c);
+    try_spoilt(c, spoilt);
+}
+
+/* Opens the book; then with the index of its list, if that is good, by which the same comes of it, or with a spoilt one. What
+   was opened is turned round before, so that it shows whether it is written again. */
+static uint8_t try_open(struct counts c)
+{
+    static uint32_t opened[BOOK_ROOM];
+    uint8_t answer = tell(OPENED, both_open(c));
+    memcpy(opened, LENT[HAND].opened, sizeof opened);
+    for (size_t i = 0; i < BOOK_ROOM; i++)
+        LENT[HAND].opened[i] = ~opened[i];
+    lay_index(LENT[HAND].tokens, c.tokens, LENT[HAND].index, (enum again)draw(3));
+    share();
+    if (c.tokens <= 1000 && chance(20))
+        try_spoilt(c, 1);
+    expect(INDEX_OPENED, both_open_indexed, c, answer);
+    for (size_t i = 0; answer == 0 && i < GS_BOOK_WORDS; i++)
+        if (LENT[HAND].opened[i] != opened[i])
+            disagrees("opened by the list and by the index", "book", i, opened[i], LENT[HAND].opened[i]);
+    memcpy(LENT[HAND].opened, opened, sizeof opened);
+    share();
+    return answer;
+}
+
 /* ---- runs and steps ---- */
 
 static uint16_t try_step(enum form form, struct counts c, struct entry e)
@@ -335,7 +482,7 @@ static uint8_t try_both_forms(struct counts c)
     static struct lent plain;
     static uint32_t slips[BOOK_ROOM];
     memcpy(slips, LENT[HAND].book, sizeof slips);
-    if (tell(OPENED, both_open(c)) == 0)
+    if (try_open(c) == 0)
         lend_book(LENT[HAND].opened);
     uint8_t answer = try_tape(PLAIN, c);
     plain = LENT[HAND];
@@ -347,7 +494,7 @@ static uint8_t try_both_forms(struct counts c)
         return answer;
     for (size_t i = 0; i < c.verdicts; i++)
         agree("plain against slip", i, written(&plain, i), written(&LENT[HAND], i));
-    tell(OPENED, both_open(c));
+    try_open(c);
     for (size_t i = 0; i < GS_BOOK_WORDS; i++)
         if (plain.book[i] != LENT[HAND].opened[i])
             disagrees("plain against slip", "book", i, plain.book[i], LENT[HAND].opened[i]);
@@ -365,12 +512,6 @@ static void try_from_empty(struct counts c)
     for (size_t line = 0; line < GS_BENCHES * GS_CUSTOMERS; line++)
         if (has_part(c, LENT[HAND].book, line / GS_CUSTOMERS, line % GS_CUSTOMERS))
             disagrees("a book that began empty", "a slip that is dead in part", line, 0, 1);
-}
-
-static size_t draw_wrong(size_t right, size_t room)
-{
-    size_t wrong[] = {0, 1, right == 0 ? 0 : right - 1, right + 1, draw(room + 1)};
-    return wrong[draw(5)];
 }
 
 /* A run that gets this number and no verdicts. */
@@ -427,7 +568,7 @@ static void try_loaded(struct counts c, int spoilt)
     c = lay_tape(c, chance(40));
     share();
     uint8_t plain = tell(PLAIN_SOUND, both_sound(PLAIN, c)), slip = tell(SLIP_SOUND, both_sound(SLIP, c));
-    tell(OPENED, both_open(c));
+    try_open(c);
     try_odd_seconds(form, c, form == PLAIN ? plain : slip);
     if (form == SLIP && slip == 0)
         try_both_forms(c);
@@ -449,6 +590,7 @@ static struct counts draw_counts(struct counts c)
         draw_count(c.tokens, 600),       draw_count(c.book, BOOK_ROOM),     draw_count(c.opened, BOOK_ROOM),
         draw_count(c.tape, TAPE_ROOM),   draw_count(c.verdicts, TAPE_ROOM), draw_count(c.seconds, TAPE_ROOM),
         draw_count(c.bytes, BYTES_ROOM), draw_count(c.fields, SMALL_ROOM),  draw_count(c.part, SMALL_ROOM),
+        draw_count(c.index, INDEX_ROOM), draw_count(c.numbers, NUMBERS_ROOM), draw_count(c.places, NUMBERS_ROOM),
     };
 }
 
@@ -457,10 +599,16 @@ static void try_counts(struct counts c)
     enum form form = STANDING.form = (enum form)draw(2);
     grow(form, c);
     c = lay_tape(c, 0);
+    lay_index(LENT[HAND].tokens, c.tokens, LENT[HAND].index, EACH_TIME);
+    c.numbers = c.places = draw(MOST_NUMBERS + 1);
+    draw_numbers(LENT[HAND].tokens, c.tokens, LENT[HAND].numbers, c.numbers);
     share();
     for (int tries = 0; tries < 6; tries++) {
         tell(SOUND[form], both_sound(form, draw_counts(c)));
         tell(OPENED, both_open(draw_counts(c)));
+        tell(CHECKED, both_index_check(draw_counts(c)));
+        tell(FOUND, both_index_places(draw_counts(c)));
+        tell(INDEX_OPENED, both_open_indexed(draw_counts(c)));
         tell_run(form, draw_counts(c));
         try_step(form, draw_counts(c), draw_entry());
         both_to_bytes(draw_counts(c));
@@ -470,6 +618,7 @@ static void try_counts(struct counts c)
     for (int tries = 0; tries < 6; tries++) {
         both_empty(draw_counts(c));
         both_from_bytes(draw_counts(c));
+        tell(BUILT, both_index_build(draw_counts(c)));
     }
 }
 
@@ -780,7 +929,7 @@ static void try_unsound(enum form form, struct counts c)
     try_refused(form, c, 1);
     try_lengths(form, c, 1);
     tell(SOUND[form], both_sound(form, c));
-    tell(OPENED, both_open(c));
+    try_open(c);
     for (uint8_t kind = STOCK; kind <= CLEAR_LIVING; kind++)
         agree("a step in an unsound book, of kind", kind, 1, try_step(form, c, (struct entry){kind, 0, 0, 0, 0}));
 }
@@ -800,13 +949,35 @@ static void try_numbers(enum form form)
     try_short(form, c, bench, customer);
     try_exchanged(form, c, bench);
     try_lost(form, c, bench, customer);
-    tell(OPENED, both_open(c));
+    try_open(c);
     try_written(c);
     try_lengths(form, c, 16);
     LENT[HAND].book[0] = 0;
     try_unsound(form, c);
     memset(LENT[HAND].book, 0xff, sizeof LENT[HAND].book);
     try_unsound(form, c);
+}
+
+/* ---- every way of an index, whatever the seed ---- */
+
+/* Lists of these lengths, their tokens clashing or not; then one token too many, and one listed again. */
+static void try_indexes(void)
+{
+    static const size_t lengths[] = {0, 1, 2, 60, GS_MOST_TOKENS};
+    struct counts c = RIGHT;
+    for (size_t i = 0; i < 2 * sizeof lengths / sizeof lengths[0]; i++) {
+        lay_junk();
+        c.tokens = lengths[i / 2];
+        draw_list(LENT[HAND].tokens, LIST_ROOM);
+        if (i % 2 == 1)
+            draw_clashing(LENT[HAND].tokens, c.tokens, GS_INDEX_ENTRIES - 1 - draw(3), c.tokens < 100 ? 1 : 80);
+        try_index(c, c.tokens < 100 ? 60 : 2);
+    }
+    c.tokens = GS_MOST_TOKENS + 1;
+    try_index(c, 0);
+    c.tokens = GS_MOST_TOKENS;
+    LENT[HAND].tokens[GS_MOST_TOKENS - 1] = LENT[HAND].tokens[0];
+    try_index(c, 0);
 }
 
 /* ---- all of it ---- */
@@ -818,11 +989,15 @@ static void try_case(void)
     draw_parties();
     c.tokens = draw_listed();
     draw_list(LENT[HAND].tokens, LIST_ROOM);
+    if (chance(20))
+        clash(c);
     try_bytes(c);
     try_reader(c);
     try_writer(c);
     if (chance(3))
         repeat_token(c);
+    if (c.tokens <= 1000 && chance(25))
+        try_index(c, 1 + draw(8));
     size_t about = draw(100);
     if (about < 45)
         try_from_empty(c);
@@ -864,6 +1039,7 @@ int main(int words, char **word)
         try_example((enum form)form);
         try_numbers((enum form)form);
     }
+    try_indexes();
     for (STANDING.number = 1; STANDING.number <= cases; STANDING.number++) {
         draw_from(seed ^ (uint64_t)STANDING.number << 40);
         STANDING.step = -1;

@@ -1,5 +1,7 @@
 #include "draw.h"
 
+#include <string.h>
+
 /* The first record of each sort, and the words of a record, by short names. */
 enum { CARNETS = GS_CARNET(0), CUSTOMER_VIEWS = GS_CUSTOMER_VIEW(0), BENCH_VIEWS = GS_BENCH_VIEW(0), TILLS = GS_TILL(0) };
 enum { LINES = GS_LINE(0, 0), RECORDS = GS_BOOK_RECORDS };
@@ -48,6 +50,159 @@ void draw_list(uint32_t *tokens, size_t n)
     uint32_t factor = chance(50) ? 1 : draw_word() | 1, sum = chance(50) ? 0 : draw_word();
     for (size_t i = 0; i < n; i++)
         tokens[i] = (uint32_t)i * factor + sum;
+}
+
+static uint32_t any_token(const uint32_t *tokens, size_t n)
+{
+    return n == 0 ? 0 : tokens[draw(n)];
+}
+
+/* ---- the index of a list ---- */
+
+enum { ENTRIES = GS_INDEX_ENTRIES };
+
+/* FNV-1a over whole numbers, the remainder taken each time. */
+size_t start_of(uint32_t number)
+{
+    uint64_t hash = 2166136261;
+    for (int bytes = 4; bytes > 0; bytes--, number /= 256)
+        hash = (hash ^ number % 256) * 16777619 % 4294967296;
+    return hash % ENTRIES;
+}
+
+void draw_clashing(uint32_t *tokens, size_t n, size_t first, size_t entries)
+{
+    for (size_t i = 0; i < n; i++)
+        do
+            tokens[i] = draw_word();
+        while ((start_of(tokens[i]) + ENTRIES - first) % ENTRIES >= entries || place_in(tokens, i, tokens[i]) < i);
+}
+
+static size_t empty_from(const uint16_t *index, size_t entry)
+{
+    while (index[entry] != 0)
+        entry = (entry + 1) % ENTRIES;
+    return entry;
+}
+
+void lay_index(const uint32_t *tokens, size_t n, uint16_t *index, enum again again)
+{
+    for (size_t entry = 0; entry < ENTRIES; entry++)
+        index[entry] = 0;
+    for (size_t i = 0; i < n; i++) {
+        size_t first = place_in(tokens, i, tokens[i]), entry = start_of(tokens[i]);
+        if (first == i || again == EACH_TIME) {
+            index[empty_from(index, entry)] = (uint16_t)(i + 1);
+            continue;
+        }
+        while (again == LAST_ALONE && tokens[index[entry] - 1] != tokens[i])
+            entry = (entry + 1) % ENTRIES;
+        if (again == LAST_ALONE)
+            index[entry] = (uint16_t)(i + 1);
+    }
+}
+
+/* A number that begins where a token does, and hardly ever is one. */
+static uint32_t draw_clash(uint32_t token)
+{
+    uint32_t number;
+    do
+        number = draw_word();
+    while (start_of(number) != start_of(token));
+    return number;
+}
+
+static uint32_t draw_number(const uint32_t *tokens, size_t n)
+{
+    size_t what = draw(100);
+    if (what < 40)
+        return any_token(tokens, n);
+    if (what < 60)
+        return any_token(tokens, n) ^ (uint32_t)1 << draw(32);
+    return what < 85 ? draw_clash(any_token(tokens, n)) : draw_word();
+}
+
+void draw_numbers(const uint32_t *tokens, size_t n, uint32_t *numbers, size_t count)
+{
+    for (size_t i = 0; i < count; i++)
+        numbers[i] = draw_number(tokens, n);
+}
+
+/* ---- indexes that are wrong ---- */
+
+/* Any entry, or any of a list's filled ones. */
+static size_t any_entry(const uint16_t *index, size_t n)
+{
+    size_t entry = draw(ENTRIES);
+    while (n > 0 && index[entry] == 0)
+        entry = (entry + 1) % ENTRIES;
+    return entry;
+}
+
+/* A token exchanged with one further on that begins at the same entry, or with the next entry, filled or empty. */
+static void exchange_clashing(const uint32_t *tokens, uint16_t *index, size_t n)
+{
+    size_t one = any_entry(index, n), other = (one + 1) % ENTRIES;
+    for (size_t tries = 0, at = other; tries < 40 && index[at] != 0; tries++, at = (at + 1) % ENTRIES)
+        if (chance(30) && start_of(tokens[index[one] - 1]) == start_of(tokens[index[at] - 1]))
+            other = at;
+    uint16_t kept = index[one];
+    index[one] = index[other];
+    index[other] = kept;
+}
+
+/* Every entry is right, but those that should be empty aren't, so that no way ends there. */
+static void fill_index(uint16_t *index, size_t n)
+{
+    uint16_t any = (uint16_t)(1 + draw(n == 0 ? 65535 : n));
+    for (size_t entry = 0; entry < ENTRIES; entry++)
+        if (index[entry] == 0)
+            index[entry] = any;
+}
+
+static void spoil_entry(size_t way, const uint32_t *tokens, size_t n, uint16_t *index)
+{
+    size_t filled = any_entry(index, n), any = chance(50) ? filled : draw(ENTRIES);
+    uint16_t kept = index[filled], past = (uint16_t)(chance(50) ? n + 1 + draw(3) : 65535 - draw(60000));
+    switch (way) {
+    case 0:
+        index[any] = (uint16_t)draw_word();
+        break;
+    case 1:
+        index[filled] += (uint16_t)(chance(50) ? 1 : -1);
+        break;
+    case 2:
+        exchange_clashing(tokens, index, n);
+        break;
+    case 3:
+        index[empty_from(index, any)] = (uint16_t)(1 + draw(n == 0 ? 1 : n));
+        break;
+    case 4:
+        index[chance(50) ? filled : empty_from(index, any)] = past;
+        break;
+    case 5:
+        index[filled] = 0;
+        break;
+    case 6:
+        index[filled] = 0;
+        index[empty_from(index, (filled + 1) % ENTRIES)] = kept;
+        break;
+    default:
+        fill_index(index, n);
+    }
+}
+
+/* A way that leaves the index as it was is no use, as emptying an entry of an empty one. */
+size_t spoil_index(const uint32_t *tokens, size_t n, uint16_t *index)
+{
+    uint16_t right[ENTRIES];
+    memcpy(right, index, sizeof right);
+    for (;;) {
+        size_t way = draw(WAYS_TO_SPOIL);
+        spoil_entry(way, tokens, n, index);
+        if (memcmp(right, index, sizeof right) != 0)
+            return way;
+    }
 }
 
 /* ---- tapes ---- */
@@ -359,11 +514,6 @@ void draw_stocks(uint8_t *tape, size_t records)
 static uint32_t *record_of(uint32_t *book, size_t record)
 {
     return book + GS_RECORD_WORDS * record;
-}
-
-static uint32_t any_token(const uint32_t *tokens, size_t n)
-{
-    return n == 0 ? 0 : tokens[draw(n)];
 }
 
 /* A number in a hall where few parties have joined is mostly nobody's, so some are tried for a record in use. */

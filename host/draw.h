@@ -1,4 +1,4 @@
-/* Lists, tapes and books drawn at random from a seed. */
+/* Lists, indexes, tapes and books drawn at random from a seed. */
 #ifndef DRAW_H
 #define DRAW_H
 
@@ -14,6 +14,26 @@ uint32_t draw_word(void);
 
 /* n different tokens. */
 void draw_list(uint32_t *tokens, size_t n);
+
+/* The entry at which a number's way through an index begins. */
+size_t start_of(uint32_t number);
+
+/* n different tokens whose ways begin at so many entries, from the first on and round the end: they clash. */
+void draw_clashing(uint32_t *tokens, size_t n, size_t first, size_t entries);
+
+/* The index of a list. It is laid for bad lists too: of a token that is listed again the first is entered, the last, or
+   all. */
+enum again { FIRST_ALONE, LAST_ALONE, EACH_TIME };
+void lay_index(const uint32_t *tokens, size_t n, uint16_t *index, enum again again);
+
+/* Numbers to look up in a list: its tokens, others, and others that begin where a token does. */
+void draw_numbers(const uint32_t *tokens, size_t n, uint32_t *numbers, size_t count);
+
+/* Changes the index of a good list of n tokens in one of these ways, so that it isn't its index any more; answers in which:
+   any value in an entry, one too many or too few, tokens that clash exchanged, a token entered again, an entry past the list,
+   an entry emptied, an entry moved on to an empty one, and no entry left empty. */
+enum { WAYS_TO_SPOIL = 8 };
+size_t spoil_index(const uint32_t *tokens, size_t n, uint16_t *index);
 
 /* Who takes part in the tapes from now on. Few parties meet often. */
 void draw_parties(void);

@@ -179,6 +179,38 @@ def crash_leaves_a_book(room):
         expect(f"a crash before {told[at]}", (("".join(told[:at]), 9), book), ran(at + 1))
 
 
+def slip_book(*slips):
+    """The bytes of a slip book: customer 3 has bought six tokens, 21 on, and bench 1 holds slips of the first three."""
+    book = [0] * 6372
+    records = {0: [1, 6], 4: [1, 0, 3, 0, 24, 25, 26], 20: [1, 3, 6, 0, *range(21, 27)], 34: [1], 42: [1]}
+    records[49 + 16 + 3] = [1, 0, 3, len(slips) // 2, *slips]
+    for record, words in records.items():
+        book[36 * record:36 * record + len(words)] = words
+    return struct.pack("<6372I", *book)
+
+
+def slips_are_opened(room):
+    """host/slips.c: one index for some books, and what it refuses."""
+    lay(room)
+    command = kit.command(kit.linked(room / "slips", kit.compiled(room, kit.HOST / "slips.c")))
+    for name, content in {
+        "two.rec": slip_book(23, 1, 21, 2), "one.rec": slip_book(21, 3), "unlisted.rec": slip_book(7, 3),
+        "again.rec": kit.shared.tape.list_of(["21-32"]) + struct.pack("<I", 21),
+    }.items():
+        (room / name).write_bytes(content)
+
+    def told(*names):
+        return said([*command, *names], cwd=room)
+
+    lines = "two.rec: bench 1, customer 3: 23 21 22\n", "one.rec: bench 1, customer 3: 21 22 23\n"
+    expect("two books", ("".join(lines), 0), told("tokens.rec", "two.rec", "one.rec"))
+    expect("an unsound book", (lines[0] + "refused 1\n", 1), told("tokens.rec", "two.rec", "unlisted.rec", "one.rec"))
+    expect("a book too short", ("refused 1\n", 1), told("tokens.rec", "short.rec"))
+    expect("a bad list", ("refused 1\n", 1), told("again.rec", "two.rec"))
+    expect("a cut list", ("cut.rec: is cut within a token\n", 2), told("cut.rec", "two.rec"))
+    expect("no book", ("slips: takes tokens.rec and slip books\n", 2), told("tokens.rec"))
+
+
 def day_in_rust(room):
     """The crate's tests, those in its comments too, and its example."""
     if not has_cargo(room):
@@ -249,4 +281,7 @@ def listings_are_files(room):
             raise Fault(f"this is in no function of host/:\n{block}")
 
 
-TESTS = (constants_hold, headers_agree, day_in_c, crash_leaves_a_book, day_in_rust, page_can_be_followed, listings_are_files)
+TESTS = (
+    constants_hold, headers_agree, day_in_c, crash_leaves_a_book, slips_are_opened, day_in_rust, page_can_be_followed,
+    listings_are_files,
+)

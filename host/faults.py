@@ -246,4 +246,84 @@ FAULTS = [
         "bytes[i] = (uint8_t)(word >> 8 * i);",
         "bytes[3 - i] = (uint8_t)(word >> 8 * i);",
     ),
+    (
+        "an order of bytes: a token's way through the index begins by its highest first",
+        "(hash ^ (token >> 8 * i & 255))",
+        "(hash ^ (token >> (24 - 8 * i) & 255))",
+    ),
+    (
+        "another hash: multiplied before each byte and not behind it",
+        "hash = (hash ^ (token >> 8 * i & 255)) * 16777619;",
+        "hash = hash * 16777619 ^ (token >> 8 * i & 255);",
+    ),
+    (
+        "a way that ends at the index's end and doesn't go round it",
+        "tokens[index[entry] - 1] != token)\n        entry = (entry + 1) % ENTRIES;\n",
+        "tokens[index[entry] - 1] != token && entry + 1 < ENTRIES)\n        entry++;\n",
+    ),
+    (
+        "an entry that is the token's place and not one more",
+        "index[entry_of_token(tokens, index, tokens[place])] = (uint16_t)(place + 1);",
+        "index[entry_of_token(tokens, index, tokens[place])] = (uint16_t)place;",
+    ),
+    (
+        "an index let pass: each token is found by it, but it has entries more",
+        """        if (index[entry] != built[entry])
+            return 0;
+""",
+        """        if (built[entry] != 0 && index[entry] != built[entry])
+            return 0;
+""",
+    ),
+    (
+        "an index let pass: it has an entry for each token, found from the token's start on, but in another order",
+        """    for (size_t entry = 0; entry < ENTRIES; entry++)
+        if (index[entry] != built[entry])
+            return 0;
+""",
+        """    for (size_t entry = 0; entry < ENTRIES; entry++)
+        if ((index[entry] == 0) != (built[entry] == 0))
+            return 0;
+    for (size_t place = 0; place < n; place++) {
+        size_t entry = start_of(tokens[place]);
+        while (index[entry] != 0 && index[entry] != place + 1)
+            entry = (entry + 1) % ENTRIES;
+        if (index[entry] == 0)
+            return 0;
+    }
+""",
+    ),
+    (
+        "a list not asked: the index of one with a token twice",
+        "    uint16_t built[ENTRIES];\n    if (entries != ENTRIES || !good_list(tokens, n))",
+        "    uint16_t built[ENTRIES];\n    if (entries != ENTRIES || n > MOST_TOKENS)",
+    ),
+    (
+        "a refused build that writes: the index of a bad list is emptied",
+        """    if (entries != ENTRIES || !good_list(tokens, n))
+        return 1;
+    lay_index(tokens, n, index);
+    return 0;
+""",
+        """    if (entries != ENTRIES)
+        return 1;
+    lay_index(tokens, good_list(tokens, n) ? n : 0, index);
+    return good_list(tokens, n) ? 0 : 1;
+""",
+    ),
+    (
+        "another absence: the list's last place for a number that isn't listed",
+        "return index[entry] == 0 ? n :",
+        "return index[entry] == 0 && n > 0 ? n - 1 : index[entry] == 0 ? n :",
+    ),
+    (
+        "a length let pass: more places than numbers",
+        "!index_good(tokens, n, index, entries) || count != place_count",
+        "!index_good(tokens, n, index, entries) || count > place_count",
+    ),
+    (
+        "an index not asked: a book opened with a wrong one",
+        "    if (!index_good(tokens, n, index, entries))\n        return 1;\n    return hand_slip_open",
+        "    if (entries != ENTRIES || (size_t)index[0] > n)\n        return 1;\n    return hand_slip_open",
+    ),
 ]

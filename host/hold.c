@@ -19,8 +19,8 @@ static const struct {
     size_t offset, size, width;
 } PARTS[] = {
 #define PART(name) {#name, offsetof(struct lent, name), sizeof LENT->name, sizeof LENT->name[0]}
-    PART(before),   PART(tokens),  PART(book),  PART(opened), PART(fields), PART(tape),
-    PART(verdicts), PART(seconds), PART(bytes), PART(part),   PART(after),
+    PART(before), PART(tokens),   PART(book),    PART(opened), PART(fields), PART(numbers), PART(places), PART(index),
+    PART(tape),   PART(verdicts), PART(seconds), PART(bytes),  PART(part),   PART(after),
 #undef PART
 };
 
@@ -51,7 +51,14 @@ void disagrees(const char *things, const char *what, size_t place, size_t first,
 static size_t cell(int side, size_t part, size_t place)
 {
     const uint8_t *at = (const uint8_t *)&LENT[side] + PARTS[part].offset + place * PARTS[part].width;
-    return PARTS[part].width == 1 ? *at : *(const uint32_t *)at;
+    switch (PARTS[part].width) {
+    case 1:
+        return *at;
+    case 2:
+        return *(const uint16_t *)at;
+    default:
+        return *(const uint32_t *)at;
+    }
 }
 
 static int same(size_t hand, size_t proved)
@@ -110,6 +117,44 @@ uint16_t both_step(enum form form, struct counts c, struct entry e)
 uint8_t both_open(struct counts c)
 {
     BOTH("open", uint8_t, l->open(b->tokens, c.tokens, b->book, c.book, b->opened, c.opened));
+}
+
+/* The quick index has to answer and leave what the plain one does, on a copy of what that was lent. */
+static void hold_quick(const char *call, const struct lent *copy, uint8_t hand, uint8_t quick)
+{
+    if (quick != hand || memcmp(&LENT[HAND], copy, sizeof *copy) != 0)
+        disagrees(call, "the plain index against the quick one", NO_PLACE, hand, quick);
+}
+
+#define ALL(name, expression)                             \
+    static struct lent copy;                              \
+    copy = LENT[HAND];                                    \
+    ASK(uint8_t, expression)                              \
+    hold(name, "answer", said[HAND], said[PROVED]);       \
+    const struct ledger *l = &LEDGERS[QUICK];             \
+    struct lent *b = &copy;                               \
+    hold_quick(name, &copy, said[HAND], expression);      \
+    return said[HAND]
+
+uint8_t both_index_build(struct counts c)
+{
+    ALL("index_build", l->index_build(b->tokens, c.tokens, b->index, c.index));
+}
+
+uint8_t both_index_check(struct counts c)
+{
+    ALL("index_check", l->index_check(b->tokens, c.tokens, b->index, c.index));
+}
+
+uint8_t both_index_places(struct counts c)
+{
+    ALL("index_places", l->index_places(b->tokens, c.tokens, b->index, c.index, b->numbers, c.numbers, b->places, c.places));
+}
+
+uint8_t both_open_indexed(struct counts c)
+{
+    ALL("open_indexed",
+        l->open_indexed(b->tokens, c.tokens, b->index, c.index, b->book, c.book, b->opened, c.opened));
 }
 
 uint8_t both_to_bytes(struct counts c)

@@ -7,6 +7,7 @@
 
 enum { LIST_ROOM = GS_MOST_TOKENS + 64, BOOK_ROOM = GS_BOOK_WORDS + 64, BYTES_ROOM = GS_BOOK_BYTES + 64 };
 enum { MOST_RECORDS = 600, TAPE_ROOM = 8 * MOST_RECORDS + 64, SMALL_ROOM = 64 };
+enum { INDEX_ROOM = GS_INDEX_ENTRIES + 64, MOST_NUMBERS = 100, NUMBERS_ROOM = MOST_NUMBERS + 64 };
 
 /* All that can be lent, in one piece: a cell written outside of what was lent is within it too, and is seen. */
 struct lent {
@@ -15,6 +16,9 @@ struct lent {
     uint32_t book[BOOK_ROOM];
     uint32_t opened[BOOK_ROOM];
     uint32_t fields[SMALL_ROOM];
+    uint32_t numbers[NUMBERS_ROOM];
+    uint32_t places[NUMBERS_ROOM];
+    uint16_t index[INDEX_ROOM];
     uint8_t tape[TAPE_ROOM];
     uint8_t verdicts[TAPE_ROOM];
     uint8_t seconds[TAPE_ROOM];
@@ -29,7 +33,7 @@ void share(void);
 
 /* The counts that go with what is lent. */
 struct counts {
-    size_t tokens, book, opened, tape, verdicts, seconds, bytes, fields, part;
+    size_t tokens, book, opened, tape, verdicts, seconds, bytes, fields, part, index, numbers, places;
 };
 
 /* Where the test stands, for the report; a step of -1 says that the call isn't one of a tape's steps. */
@@ -51,6 +55,13 @@ uint8_t both_sound(enum form form, struct counts c);
 uint16_t both_step(enum form form, struct counts c, struct entry e);
 uint8_t both_run(enum form form, struct counts c);
 uint8_t both_open(struct counts c);
+
+/* What is asked of the index is asked of the quick one by hand too. */
+uint8_t both_index_build(struct counts c);
+uint8_t both_index_check(struct counts c);
+uint8_t both_index_places(struct counts c);
+uint8_t both_open_indexed(struct counts c);
+
 uint8_t both_to_bytes(struct counts c);
 uint8_t both_from_bytes(struct counts c);
 uint8_t both_read(struct counts c, size_t at);

@@ -220,7 +220,29 @@ static void lay_full(enum form form)
         fail("the full book isn't sound");
 }
 
-void lay(size_t what, enum form form)
+/* n listed, dealt and sold: by twos, so that a line of 32 tokens has 16 sales. */
+static void lay_sold(size_t n, enum form form)
+{
+    list(n);
+    everybody_joins();
+    for (size_t customer = 0; 32 * customer < n; customer++) {
+        size_t count = n < 32 ? n : 32;
+        add(4, 0, customer, count);
+        for (size_t sale = 0; sale < count / 2; sale++)
+            add(6, customer % GS_BENCHES, customer, 2);
+    }
+    settle(form);
+}
+
+static void index_list(void)
+{
+    if (LEDGERS[HAND].index_build(LAID.tokens, LAID.listed, LAID.index, GS_INDEX_ENTRIES) != 0)
+        fail("the list has no index");
+    for (size_t i = 0; i < LOOK_UPS && LAID.listed > 0; i++)
+        LAID.numbers[i] = LAID.tokens[i % LAID.listed];
+}
+
+static void lay_book(size_t what, enum form form)
 {
     switch (what) {
     case MIXED:
@@ -245,7 +267,19 @@ void lay(size_t what, enum form form)
     case LONG_LIVING:
         lay_long_lines(11, form);
         break;
+    case SOLD_16:
+        lay_sold(16, form);
+        break;
+    case SOLD_512:
+        lay_sold(512, form);
+        break;
     default:
         lay_kind(what, form);
     }
+}
+
+void lay(size_t what, enum form form)
+{
+    lay_book(what, form);
+    index_list();
 }

@@ -2,7 +2,8 @@
    `rt staticlib gingerstall`. docs/RULES.md tells the rules, and what each number below stands for.
 
    A book is 6,372 words of 32 bits; on file it is 25,488 bytes, each word's lowest byte first. An empty book is one of
-   either form, plain or slip. A token list is 0 to 4,096 words, all different. A tape is records of 8 bytes.
+   either form, plain or slip. A token list is 0 to 4,096 words, all different. A tape is records of 8 bytes. An index of a
+   list is 8,192 numbers of 16 bits; docs/RULES.md tells which.
 
    What is lent comes as a pointer and the count of its elements. A caller owes pointers that are valid for these counts:
    not null, even where a count is 0, and none to be written that overlaps another. Nothing else is asked: any words,
@@ -17,6 +18,7 @@
 #define GS_RECORD_WORDS 36
 #define GS_BOOK_RECORDS 177
 #define GS_BOOK_WORDS 6372
+#define GS_INDEX_ENTRIES 8192
 #define GS_BOOK_BYTES 25488 /* of a book on file */
 #define GS_TAPE_BYTES 8     /* of one record on a tape */
 #define GS_MOST_TOKENS 4096 /* in a list */
@@ -84,6 +86,22 @@ uint8_t gs_slip_run(const uint32_t *tokens, size_t n, uint32_t *book, size_t wor
    list or the plain one hasn't 6,372 words. */
 uint8_t gs_slip_open(const uint32_t *tokens, size_t n, const uint32_t *slips, size_t words, uint32_t *plain,
                      size_t plain_words);
+
+/* Makes the index of a list and answers 0. Answers 1 if the list isn't good or the index hasn't 8,192 entries. Takes some
+   16 kilobytes of stack. */
+uint8_t gs_index_build(const uint32_t *tokens, size_t n, uint16_t *index, size_t entries);
+
+/* 0 if the list is good and this is its index, entry for entry, else 1. Writes nothing. */
+uint8_t gs_index_check(const uint32_t *tokens, size_t n, const uint16_t *index, size_t entries);
+
+/* Where each of the numbers stands in the list: places[i] becomes the place of numbers[i], counted from 0, or n if it is no
+   token. Answers 0, or 1 if gs_index_check would, or if there aren't as many places as numbers. The index is checked once. */
+uint8_t gs_index_places(const uint32_t *tokens, size_t n, const uint16_t *index, size_t entries, const uint32_t *numbers,
+                        size_t count, uint32_t *places, size_t place_count);
+
+/* As gs_slip_open, but each slip is looked up with the index. Answers 1 also if gs_index_check would. */
+uint8_t gs_slip_open_indexed(const uint32_t *tokens, size_t n, const uint16_t *index, size_t entries, const uint32_t *slips,
+                             size_t words, uint32_t *plain, size_t plain_words);
 
 /* The book of either form as bytes, n of them. Answers 1 if a length is wrong, else 0. Soundness isn't asked. */
 uint8_t gs_book_to_bytes(const uint32_t *book, size_t words, uint8_t *bytes, size_t n);

@@ -12,6 +12,10 @@ use Rattle.gingerstall.proofs.gs_slip_step.Reads as gs-slip-step-call
 use Rattle.gingerstall.proofs.gs_run.Reads as gs-run-call
 use Rattle.gingerstall.proofs.gs_slip_run.Reads as gs-slip-run-call
 use Rattle.gingerstall.proofs.gs_slip_open.Reads as gs-slip-open-call
+use Rattle.gingerstall.proofs.gs_index_build.Reads as gs-index-build-call
+use Rattle.gingerstall.proofs.gs_index_check.Reads as gs-index-check-call
+use Rattle.gingerstall.proofs.gs_index_places.Reads as gs-index-places-call
+use Rattle.gingerstall.proofs.gs_slip_open_indexed.Reads as gs-slip-open-indexed-call
 use Rattle.gingerstall.proofs.gs_book_to_bytes.Reads as gs-book-to-bytes-call
 use Rattle.gingerstall.proofs.gs_book_from_bytes.Reads as gs-book-from-bytes-call
 use Rattle.gingerstall.proofs.gs_read.Reads as gs-read-call
@@ -41,6 +45,18 @@ gs-slip-run-determined κs a = determined _ _ _ (λ z e p. both (p .answer) (bot
 
 gs-slip-open-determined : (κs : _) (a : _) → Determined {O = ℕ × List ℕ} (gs-slip-open-call.Learnt κs a) (λ z e. (z, e .1 .1 .0 .now))
 gs-slip-open-determined κs a = determined _ _ _ (λ z e p. both (p .number) (p .cells))
+
+gs-index-build-determined : (κs : _) (a : _) → Determined {O = ℕ × List ℕ} (gs-index-build-call.Learnt κs a) (λ z e. (z, e .1 .0 .now))
+gs-index-build-determined κs a = determined _ _ _ (λ z e p. both (p .number) (p .cells))
+
+gs-index-check-determined : (κs : _) (a : _) → Determined (gs-index-check-call.Learnt κs a) (λ z e. z)
+gs-index-check-determined κs a = determined _ _ _ (λ z e p. p)
+
+gs-index-places-determined : (κs : _) (a : _) → Determined {O = ℕ × List ℕ} (gs-index-places-call.Learnt κs a) (λ z e. (z, e .1 .1 .1 .0 .now))
+gs-index-places-determined κs a = determined _ _ _ (λ z e p. both (p .number) (p .cells))
+
+gs-slip-open-indexed-determined : (κs : _) (a : _) → Determined {O = ℕ × List ℕ} (gs-slip-open-indexed-call.Learnt κs a) (λ z e. (z, e .1 .1 .1 .0 .now))
+gs-slip-open-indexed-determined κs a = determined _ _ _ (λ z e p. both (p .number) (p .cells))
 
 gs-book-to-bytes-determined : (κs : _) (a : _) → Determined {O = ℕ × List ℕ} (gs-book-to-bytes-call.Learnt κs a) (λ z e. (z, e .1 .0 .now))
 gs-book-to-bytes-determined κs a = determined _ _ _ (λ z e p. both (p .number) (p .cells))

@@ -4,7 +4,7 @@ ghost use mathlib.Core.Path.{_≡_};
 ghost use Prim.Native.Nat.{_/_, _%_};
 ghost use lib.ListN.{length};
 ghost use Rattle.rules.specs.Answers.{Gives};
-ghost use Rattle.rules.specs.Lists.{cond, []};
+ghost use Rattle.rules.specs.Lists.{cond};
 ghost use Rattle.rules.specs.Hall.{mainHall};
 ghost use Rattle.rules.specs.Sound.{sound};
 ghost use Rattle.rules.specs.Bytes.{makeEmpty, writeBook, readBook};
@@ -12,10 +12,14 @@ ghost use Rattle.rules.specs.Tape.{readAt, writeEntry};
 ghost use Rattle.rules.specs.Form.{plain};
 ghost use Rattle.rules.specs.Verdicts.{step, run, RunGives};
 ghost use Rattle.rules.specs.Slips.{slip, slipSound, openInto};
+ghost use Rattle.rules.specs.Index.{isIndex, buildIndex, placesInto, openIndexed};
 ghost use Rattle.tape.specs.Reading.{numberOf, entryIn};
 ghost use Rattle.gingerstall.specs.Outer.{Packed, entryFrom, fieldsOf, readFields};
 use book::forms::Form;
 use book::writing;
+use index::building;
+use index::checking;
+use index::finding;
 use rules::Entry;
 use rules::Reply;
 use tape::Cursor;
@@ -137,6 +141,46 @@ pub extern "C" fn gs_slip_open(tokens: &[u32], slips: &[u32], plain: &mut [u32])
     ensures { λ r. ⌜ Gives (openInto mainHall (now (tokens .entry)) (now (slips .entry)) (now (plain .entry))) r (now (plain .exit)) ⌝ }
 {
     slips::open_into(tokens, slips, plain)
+}
+
+// ---- an index beside the list, and what is done with one
+
+#[no_mangle]
+pub extern "C" fn gs_index_build(tokens: &[u32], index: &mut [u16]) -> u8
+    ensures { λ r. ⌜ Gives (buildIndex (now (tokens .entry)) (now (index .entry))) r (now (index .exit)) ⌝ }
+{
+    building::build(tokens, index)
+}
+
+#[no_mangle]
+pub extern "C" fn gs_index_check(tokens: &[u32], index: &[u16]) -> u8
+    ensures { λ r. ⌜ r ≡ cond (isIndex (now (tokens .entry)) (now (index .entry))) 0 1 ⌝ }
+{
+    unsound(checking::is_index(tokens, index))
+}
+
+#[no_mangle]
+pub extern "C" fn gs_index_places(
+    tokens: &[u32],
+    index: &[u16],
+    numbers: &[u32],
+    places: &mut [u32],
+) -> u8
+    ensures { λ r. ⌜ Gives (placesInto (now (tokens .entry)) (now (index .entry)) (now (numbers .entry)) (now (places .entry))) r (now (places .exit)) ⌝ }
+{
+    finding::places(tokens, index, numbers, places)
+}
+
+#[no_mangle]
+pub extern "C" fn gs_slip_open_indexed(
+    tokens: &[u32],
+    index: &[u16],
+    slips: &[u32],
+    plain: &mut [u32],
+) -> u8
+    ensures { λ r. ⌜ Gives (openIndexed mainHall (now (tokens .entry)) (now (index .entry)) (now (slips .entry)) (now (plain .entry))) r (now (plain .exit)) ⌝ }
+{
+    slips::open_indexed(tokens, index, slips, plain)
 }
 
 // ---- a book on file

@@ -22,8 +22,9 @@ pub mod Places
 pub mod Changes
 -- parts of a list as code lends them, and the list when a mutable part is back
 pub mod Parts
--- unbroken runs of the token list; what slips open to; the opened book by its records; the empty book
+-- unbroken runs of the token list; the places of tokens in it; what slips open to; the opened book by its records; the empty book
 pub mod Runs
+pub mod Spots
 pub mod SlipLines
 pub mod EachSlip
 pub mod Opened

@@ -1,11 +1,11 @@
 -- How often a number stands in a list, and that no number stands twice.
 use mathlib.Core.Path.{_≡_, refl, sym, ap, _∙_}
 use mathlib.Core.Logic.{⊎-elim}
-use Prim.Native.Nat.{_≤_}
+use Prim.Native.Nat.{_≤_, _<_}
 use native.Mathlib.Omega.{arith}
 use lib.ListN.{take-append-drop}
 use borrow.Author.Tests.{eq-eqb, ne-eqb, eqb-true}
-use Rattle.rules.specs.Lists.{ℕ, suc, _+_, true, eqb, List, [], _∷_, _++_, take, drop, occ, allDifferent, sumOf, joined}
+use Rattle.rules.specs.Lists.{ℕ, zero, suc, _+_, true, eqb, List, [], _∷_, _++_, length, take, drop, getD, set, occ, allDifferent, sumOf, joined}
 use Rattle.rules.proofs.Tests.{same, and-left, and-right, true-and}
 
 pub occ-equal : (x y : ℕ) (ys : List ℕ) → x ≡ y → occ x (y ∷ ys) ≡ suc (occ y ys)
@@ -47,3 +47,10 @@ once-different (x ∷ xs) h =
     true-and _ _
     (eq-eqb (occ x xs) 0 (omega (arith, h x, occ-equal x x xs refl)))
     (once-different xs (λ t. omega (arith, h t)))
+
+-- a zero filled
+pub occ-filled : (xs : List ℕ) (p e : ℕ) → p < length xs → getD xs p 0 ≡ 0 → 0 < e → suc (occ 0 (set xs p e)) ≡ occ 0 xs
+unfolding occ
+occ-filled [] p e l z h = absurd (omega arith)
+occ-filled (x ∷ xs) zero e l z h = omega (arith, occ-equal 0 x xs (sym z), ap (λ (k : ℕ). occ k xs) z, occ-unequal 0 e xs (λ q. omega arith))
+occ-filled (x ∷ xs) (suc p) e l z h = omega (arith, occ-filled xs p e (omega arith) z h)

@@ -5,13 +5,14 @@ use Prim.Native.Nat.{_≤_, _<_}
 use native.Mathlib.Omega.{arith}
 use lib.ListN.{length-take, length-drop}
 use lib.Seq.{take-take, drop-drop, take-nil, getD-take, getD-drop}
-use borrow.Author.Tests.{eq-eqb, ne-eqb, eqb-true}
+use borrow.Author.Tests.{lt-ltb, eq-eqb, ne-eqb, eqb-true, eqb-false}
 use Rattle.rules.specs.Lists.{ℕ, zero, suc, _+_, _-_, min, Bool, true, false, cond, eqb, List, [], _∷_, length, take, drop, getD, occ, allDifferent, firstOf, placeOf, sameList}
 use Rattle.rules.specs.Records.{count, cells, held, filled, made}
 use Rattle.rules.specs.Hall.{mostTokens}
 use Rattle.rules.specs.Sound.{goodList}
 use Rattle.rules.specs.Slips.{openSlip, isRun}
 use Rattle.rules.proofs.Tests.{parts, same, and-left, and-right, true-and}
+use Rattle.rules.proofs.Searching.{nowhere}
 use Rattle.laws.proofs.Occurrences.{occ-equal, occ-split}
 use Rattle.laws.proofs.Made.{made-held}
 
@@ -73,6 +74,10 @@ place-there x (y ∷ ys) l =
     (λ (q : x ≡ y → ⊥). rw (ne-eqb x y q) (place-there x ys (let m = rw (ne-eqb x y q) at l in omega arith)))
     (same x y)
 
+pub place-in : (x : ℕ) (ts : List ℕ) → 1 ≤ occ x ts → placeOf x ts < length ts
+place-in x ts l =
+    let n : placeOf x ts ≡ length ts → ⊥ = eqb-false _ _ (nowhere x ts ∙ rw (lt-ltb 0 (occ x ts) l)) in omega (arith, n, place-le x ts)
+
 -- how often a number stands in the first m of a list in which none stands twice
 pub front-occ : (ts : List ℕ) → allDifferent ts ≡ true → (x m : ℕ) → m ≤ length ts → occ x (take m ts) ≡ min 1 (m - placeOf x ts)
 unfolding allDifferent occ firstOf placeOf
@@ -89,6 +94,23 @@ front-occ (y ∷ ys) e x (suc m) l =
 pub good-list : (ts : List ℕ) → goodList ts ≡ true → (length ts ≤ mostTokens) × (allDifferent ts ≡ true)
 unfolding goodList
 good-list ts e = (search parts, search parts)
+
+-- none stands twice just where no two places have the same
+abbrev pub Apart : List ℕ → ℕ → Type 0
+Apart ts n = (j i : ℕ) → j < i → i < n → getD ts j 0 ≡ getD ts i 0 → ⊥
+
+pub different-apart : (ts : List ℕ) → allDifferent ts ≡ true → Apart ts (length ts)
+different-apart ts e j i l m q = omega (arith, place-at ts e j (omega arith), place-at ts e i m, ap (λ (x : ℕ). placeOf x ts) q)
+
+pub apart-different : (ts : List ℕ) → Apart ts (length ts) → allDifferent ts ≡ true
+unfolding allDifferent
+apart-different [] h = refl
+apart-different (y ∷ ys) h =
+    let again : 1 ≤ occ y ys → ⊥ = λ l.
+    h 0 (suc (placeOf y ys)) (omega arith) (omega (arith, place-in y ys l)) (sym (place-there y ys (place-in y ys l))) in
+    true-and _ _
+    (eq-eqb (occ y ys) 0 (omega (arith, again)))
+    (apart-different ys (λ j i l m. h (suc j) (suc i) (omega arith) (omega arith)))
 
 -- ---- the test
 pub run-test : (ts r : List ℕ) → held r ≡ openSlip ts (getD (cells r) 0 0) (count r) → isRun ts r ≡ true

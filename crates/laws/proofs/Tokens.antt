@@ -5,7 +5,7 @@ use Prim.Native.Nat.{_≤_, _<_}
 use native.Mathlib.Omega.{arith}
 use lib.Seq.{take-add}
 use borrow.Author.Tests.{eqb-true, ltb-true, lt-ltb, le-ltb}
-use Rattle.rules.specs.Lists.{ℕ, zero, suc, _+_, Bool, true, false, cond, _&&_, ltb, eqb, List, [], _∷_, _++_, length, take, drop, every, occ, isIn, allDifferent, without, among}
+use Rattle.rules.specs.Lists.{ℕ, zero, suc, _+_, Bool, true, false, cond, _&&_, ltb, eqb, List, [], _∷_, _++_, length, take, drop, every, occ, isIn, allDifferent, without, among, joined}
 use Rattle.rules.proofs.Tests.{never, same, and-left, and-right, and-then, true-and}
 use Rattle.rules.proofs.Searching.{among-in, among-out}
 use Rattle.laws.proofs.Occurrences.{occ-equal, occ-unequal, occ-append}
@@ -19,6 +19,11 @@ module _ (test : ℕ → Bool) where
 
   pub every-append : (xs ys : List ℕ) → every test xs ≡ true → every test ys ≡ true → every test (xs ++ ys) ≡ true
   every-append xs ys p q = every-both xs ys ∙ true-and _ _ p q
+
+  pub every-joined : (f : ℕ → List ℕ) (ks : List ℕ) → every (λ k. every test (f k)) ks ≡ true → every test (joined f ks) ≡ true
+  unfolding every joined
+  every-joined f [] e = refl
+  every-joined f (k ∷ ks) e = every-append (f k) (joined f ks) (and-left (every test (f k)) _ e) (every-joined f ks (and-right (every test (f k)) _ e))
 
   pub every-take : (n : ℕ) (xs : List ℕ) → every test xs ≡ true → every test (take n xs) ≡ true
   unfolding every

@@ -7,8 +7,9 @@ use lib.ListN.{length-set}
 use lib.Seq.{drop-length}
 use borrow.Author.Fill.{fill-more}
 use borrow.Author.Tests.{eqb-true}
-use Rattle.rules.specs.Lists.{ℕ, zero, suc, _+_, _-_, true, eqb, List, [], _∷_, _++_, length, take, drop, getD, set, replicate, every, allZero}
+use Rattle.rules.specs.Lists.{ℕ, zero, suc, _+_, _-_, true, eqb, List, [], _∷_, _++_, length, take, drop, getD, set, replicate, every, allZero, occ}
 use Rattle.rules.proofs.Tests.{and-left, and-right}
+use Rattle.laws.proofs.Occurrences.{occ-equal}
 
 abbrev pub zeros : ℕ → List ℕ
 zeros n = replicate n 0
@@ -41,6 +42,11 @@ pub take-zeros : (m n : ℕ) → m ≤ n → take m (zeros n) ≡ zeros m
 take-zeros zero n l = refl
 take-zeros (suc m) zero l = absurd (omega arith)
 take-zeros (suc m) (suc n) l = ap (λ (x : List ℕ). 0 ∷ x) (take-zeros m n (omega arith))
+
+pub occ-zeros : (n : ℕ) → occ 0 (zeros n) ≡ n
+unfolding occ
+occ-zeros zero = refl
+occ-zeros (suc n) = omega (arith, occ-zeros n, occ-equal 0 0 (zeros n) refl)
 
 -- ---- a list wiped from its front: the first i are zero, and the rest is as it was
 pub record Wiping (s : List ℕ) (i : ℕ) (t : List ℕ) : Type 0 where

@@ -1,4 +1,4 @@
--- What to believe, in the order of document 01, and last what document 02 (vii) says of a whole tape.
+-- What to believe, in the order of document 01, and last what document 02 adds: of a whole tape (vii), and an index (viii).
 pub mod Lists
 pub mod Hall
 pub mod Answers
@@ -14,3 +14,4 @@ pub mod Agree
 pub mod Listing
 pub mod Walk
 pub mod Balance
+pub mod Index

@@ -2,9 +2,10 @@
 pub use mathlib.Core.Path.{_≡_}
 pub use mathlib.Core.Bool.{Bool, true, false, cond, not, _&&_, _||_}
 pub use mathlib.Core.List.{List, [], _∷_, _++_}
-pub use Prim.Native.Nat.{ℕ, zero, suc, _+_, _*_, _-_, _/_, _%_, min}
+pub use Prim.Native.Nat.{ℕ, zero, suc, _+_, _*_, _-_, _/_, _%_, _^_, min}
 pub use lib.ListN.{length, take, drop, getD, set, replicate}
 pub use lib.Dec.{leb, ltb, eqb}
+pub use lib.Bits.{bitXor}
 
 -- n numbers from a on
 unfoldable pub range : ℕ → ℕ → List ℕ

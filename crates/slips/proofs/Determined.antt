@@ -7,6 +7,8 @@ use Rattle.slips.proofs.is_sound_of.Reads as is-sound-of-call
 use Rattle.slips.proofs.is_sound.Reads as is-sound-call
 use Rattle.slips.proofs.open_into_of.Reads as open-into-of-call
 use Rattle.slips.proofs.open_into.Reads as open-into-call
+use Rattle.slips.proofs.open_indexed_of.Reads as open-indexed-of-call
+use Rattle.slips.proofs.open_indexed.Reads as open-indexed-call
 
 is-sound-of-determined : (κs : _) (a : _) → Determined (is-sound-of-call.Learnt κs a) (λ z e. z)
 is-sound-of-determined κs a = determined _ _ _ (λ z e p. p)
@@ -19,3 +21,9 @@ open-into-of-determined κs a = determined _ _ _ (λ z e p. both (p .number) (p 
 
 open-into-determined : (κs : _) (a : _) → Determined {O = ℕ × List ℕ} (open-into-call.Learnt κs a) (λ z e. (z, e .1 .1 .0 .now))
 open-into-determined κs a = determined _ _ _ (λ z e p. both (p .number) (p .cells))
+
+open-indexed-of-determined : (κs : _) (a : _) → Determined {O = ℕ × List ℕ} (open-indexed-of-call.Learnt κs a) (λ z e. (z, e .1 .1 .1 .1 .0 .now))
+open-indexed-of-determined κs a = determined _ _ _ (λ z e p. both (p .number) (p .cells))
+
+open-indexed-determined : (κs : _) (a : _) → Determined {O = ℕ × List ℕ} (open-indexed-call.Learnt κs a) (λ z e. (z, e .1 .1 .1 .0 .now))
+open-indexed-determined κs a = determined _ _ _ (λ z e p. both (p .number) (p .cells))

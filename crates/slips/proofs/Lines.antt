@@ -36,7 +36,7 @@ module _ (ts : List ℕ) (d : ℕ) where
         take-occ ts (placeOf t ts) n x,
       ))
 
-  slips-known : (k : ℕ) (pairs : List ℕ) → slipsGood ts d k pairs ≡ true → every (λ x. isIn x (take d ts)) (openSlips ts k pairs) ≡ true
+  pub slips-known : (k : ℕ) (pairs : List ℕ) → slipsGood ts d k pairs ≡ true → every (λ x. isIn x (take d ts)) (openSlips ts k pairs) ≡ true
   unfolding slipsGood openSlips every
   slips-known zero pairs e = refl
   slips-known (suc k) pairs e =

@@ -12,15 +12,16 @@ use Rattle.rules.specs.Answers.{first, answer, Gives}
 use Rattle.rules.specs.Sound.{fits, goodList, deskGood, recordGood, partiesGood, onceIn, moneyGood}
 use Rattle.rules.specs.Slips.{slipTokens, openBook, slipsGood, slipLineGood, isRun, slipSound, openInto}
 use Rattle.rules.proofs.Tests.{parts, below, alike, and-left, and-right, true-and, and-no, Chain}
-use Rattle.laws.proofs.Groups.{joined-both}
-use Rattle.laws.proofs.Groups.{every-range, range-every, every-same, joined-same}
+use Rattle.laws.proofs.Groups.{every-range, range-every, every-same, joined-same, joined-both}
+use Rattle.laws.proofs.Runs.{good-list}
 use Rattle.laws.proofs.Blocks.{block-long}
 use Rattle.laws.proofs.Asked.{record-place, place-desk}
 use Rattle.laws.proofs.Reflect.{Book, sound-facts}
-use Rattle.laws.proofs.Books.{dealt-few, list-different}
+use Rattle.laws.proofs.Books.{dealt-few}
 use Rattle.laws.proofs.Opened.{opened-use, opened-amount, opened-count, open-long, open-same, open-line, open-word}
 use Rattle.laws.proofs.ReflectSlips.{SlipLine, slip-line-facts, SlipSound, slip-sound-facts, slip-sound-test}
 use Rattle.laws.proofs.SlipLines.{open-held}
+use Rattle.rules.specs.Index.{isIndex, openIndexed}
 use Rattle.sound.specs.Together.{heldIn}
 use Rattle.sound.proofs.groups.Grouped.{different-both}
 use Rattle.sound.specs.Accounts.{accountsGood}
@@ -28,13 +29,22 @@ use Rattle.sound.proofs.Whole.{clauses}
 use Rattle.slips.specs.Fine.{fine}
 use Rattle.slips.specs.Alone.{firsts, begunIn, allAlone}
 use Rattle.slips.proofs.alone.Alone.{slips-alone}
-use Rattle.slips.specs.Clauses.{ownGood, apartGood}
+use Rattle.slips.specs.Clauses.{ownGood, openedIn, onceGood, apartGood}
 use Rattle.slips.proofs.Lines.{Fine, fine-facts, line-good}
 
 desk-dealt : (h : Hall) (ts : List ℕ) (d : ℕ) (r : List ℕ) → recordGood h ts d 0 r ≡ true → amount r ≤ length ts
 unfolding deskGood
 desk-dealt h ts d r e =
     let g : deskGood ts r ≡ true = sym (place-desk h ts 0 r refl) ∙ record-place h ts d 0 r e in search parts
+
+-- ---- the records before the lines
+module _ (h : Hall) (ts b : List ℕ) (first : every (λ k. recordGood h ts (amount (recordAt 0 b)) k (recordAt k b)) (range 0 (number h (Line 0 0))) ≡ true) where
+  pub first-at : (k : ℕ) → k < number h (Line 0 0) → recordGood h ts (amount (recordAt 0 b)) k (recordAt k b) ≡ true
+  first-at k l =
+      every-range (λ k. recordGood h ts (amount (recordAt 0 b)) k (recordAt k b)) 0 (number h (Line 0 0)) first k (omega arith) (omega (arith, l))
+
+  pub first-few : amount (recordAt 0 b) ≤ length ts
+  first-few = desk-dealt h ts (amount (recordAt 0 b)) (recordAt 0 b) (first-at 0 (omega arith))
 
 module _ (h : Hall) (ts b : List ℕ) (long : length b ≡ words * records h) where
   abbrev at : ℕ → List ℕ
@@ -55,20 +65,26 @@ module _ (h : Hall) (ts b : List ℕ) (long : length b ≡ words * records h) wh
 
   -- ---- what opening leaves alone
   accounts-same : accountsGood h at′ ≡ accountsGood h at
-  unfolding onceIn moneyGood
+  unfolding moneyGood
   accounts-same =
       let parties : partiesGood h (λ p. inUse (at′ (number h p))) ≡ partiesGood h (λ p. inUse (at (number h p))) =
       ap (partiesGood h) (fun-ext (λ (p : Place). open-word h ts b long inUse (opened-use ts) (number h p))) in
-      let viewed : joined (λ k. held (at′ k)) (views h) ≡ joined (λ k. held (at k)) (views h) =
-      joined-same (λ k. held (at′ k)) (λ k. held (at k)) (number h (View 0)) (h .customers + h .benches)
-      (λ k l u. ap held (open-same h ts b long k (omega (arith, u)))) in
       let a : _≡_ {A = ℕ → ℕ} (λ k. amount (at′ k)) (λ k. amount (at k)) = fun-ext (open-word h ts b long amount (opened-amount ts)) in
       let c : _≡_ {A = ℕ → ℕ} (λ k. count (at′ k)) (λ k. count (at k)) = fun-ext (open-word h ts b long count (opened-count ts)) in
       let u : _≡_ {A = ℕ → ℕ} (λ k. inUse (at′ k)) (λ k. inUse (at k)) = fun-ext (open-word h ts b long inUse (opened-use ts)) in
-      rw (parties, viewed, a, c, u)
+      rw (parties, a, c, u)
+
+  -- the tokens held by records before the lines
+  held-same : (a n : ℕ) → a + n ≤ number h (Line 0 0) → joined (λ k. held (at′ k)) (range a n) ≡ heldIn b (range a n)
+  held-same a n l =
+      joined-same (λ k. held (at′ k)) (λ k. held (at k)) a n (λ k m u. ap held (open-same h ts b long k (omega (arith, l, u))))
+
+  views-same : onceIn (views h) at′ ≡ onceIn (views h) at
+  unfolding onceIn
+  views-same = ap allDifferent (held-same (number h (View 0)) (h .customers + h .benches) (omega arith))
 
   -- ---- no token twice in carnets and lines
-  module _ (list : allDifferent ts ≡ true) (small : d ≤ length ts)
+  module _ (small : d ≤ length ts)
       (fines : every (λ k. fine (at k) && slipLineGood ts d (at k)) (lines h) ≡ true) where
     line-facts-at : (k : ℕ) → number h (Line 0 0) ≤ k → k < records h → Fine (at k) × SlipLine ts d (at k)
     line-facts-at k l u =
@@ -76,12 +92,7 @@ module _ (h : Hall) (ts b : List ℕ) (long : length b ≡ words * records h) wh
         every-range (λ k. fine (at k) && slipLineGood ts d (at k)) (number h (Line 0 0)) (h .customers * h .benches) fines k l (omega (arith, u)) in
         (fine-facts (at k) (and-left (fine (at k)) _ e), slip-line-facts ts d (at k) (and-right (fine (at k)) _ e))
 
-    carried : joined (λ k. held (at′ k)) (carnets h) ≡ heldIn b (carnets h)
-    carried =
-        joined-same (λ k. held (at′ k)) (λ k. held (at k)) (number h (Carnet 0)) (h .customers)
-        (λ k l u. ap held (open-same h ts b long k (omega (arith, u))))
-
-    sold : joined (λ k. held (at′ k)) (lines h) ≡ joined (λ k. slipTokens ts (at k)) (lines h)
+    sold : joined (λ k. held (at′ k)) (lines h) ≡ openedIn ts b (lines h)
     sold =
         joined-same (λ k. held (at′ k)) (λ k. slipTokens ts (at k)) (number h (Line 0 0)) (h .customers * h .benches)
         (λ k l u.
@@ -114,15 +125,18 @@ module _ (h : Hall) (ts b : List ℕ) (long : length b ≡ words * records h) wh
         range-every (λ k. slipsGood ts d (sales (at k)) (cells (at k))) (number h (Line 0 0)) (h .customers * h .benches)
         (λ k l u. line-facts-at k l (omega (arith, u)) .1 .each)
 
-    apart-same : onceIn (spendable h) at′ ≡ apartGood h ts b
+    once-same : onceIn (spendable h) at′ ≡ allDifferent (C ++ openedIn ts b (lines h))
     unfolding onceIn
-    apart-same =
+    once-same =
         ap allDifferent (joined-both (λ k. held (at′ k)) (carnets h) (lines h))
-        ∙ rw (carried, sold)
-        (go (allDifferent C) refl)
+        ∙ rw (held-same (number h (Carnet 0)) (h .customers) (omega arith), sold)
+
+    apart-same : allDifferent ts ≡ true → apartGood h ts b ≡ allDifferent (C ++ openedIn ts b (lines h))
+    unfolding onceIn
+    apart-same list = sym (go (allDifferent C) refl)
       where
         O : List ℕ
-        O = joined (λ k. slipTokens ts (at k)) (lines h)
+        O = openedIn ts b (lines h)
 
         A : Bool
         A = every (λ k. allAlone ts C (begunIn b (lines h)) (min (sales (at k)) mostSales) (cells (at k))) (lines h)
@@ -144,18 +158,34 @@ module _ (h : Hall) (ts b : List ℕ) (long : length b ≡ words * records h) wh
       rw (dealt-same, open-line h ts b long k l u)
       (line-good h ts d k (at k) small l (long-at k u) (slip-line-facts ts d (at k) e))
 
+  -- ---- what records that are good by themselves come to
+  module _ (list : goodList ts ≡ true) (own : ownGood h ts d b ≡ true) where
+    own-few : d ≤ length ts
+    own-few = first-few h ts b (search parts depth 10)
+
+    own-fines : every (λ k. fine (at k) && slipLineGood ts d (at k)) (lines h) ≡ true
+    own-fines = search parts depth 10
+
+    pub own-line : (k : ℕ) → number h (Line 0 0) ≤ k → k < records h → SlipLine ts d (at k)
+    own-line k l u = line-facts-at own-few own-fines k l u .1
+
+    -- walks find a repeat exactly where there is one
+    pub walked-once : onceIn (views h) at && apartGood h ts b ≡ onceGood h ts b
+    walked-once = ap (λ (t : Bool). onceIn (views h) at && t) (apart-same own-few own-fines (good-list ts list .1))
+
   -- ---- from the definition to the clauses
   abbrev whole : Bool
-  whole = ((accountsGood h at && goodList ts) && ownGood h ts d b) && apartGood h ts b
+  whole = ((accountsGood h at && goodList ts) && ownGood h ts d b) && onceGood h ts b
 
   sound-whole : slipSound h ts b ≡ true → whole ≡ true
   sound-whole e =
       let s : SlipSound h ts b = slip-sound-facts h ts b e in
       let okay : Book h ts (openBook h ts b) = sound-facts h ts (openBook h ts b) (s .opens) in
-      let all : ((accountsGood h at′ && goodList ts) && each) && onceIn (spendable h) at′ ≡ true =
+      let all : ((accountsGood h at′ && goodList ts) && each) && (onceIn (views h) at′ && onceIn (spendable h) at′) ≡ true =
       sym (clauses h ts (openBook h ts b) (open-long h ts b long) .is) ∙ s .opens in
       let accounts : accountsGood h at′ ≡ true = search parts depth 10 in
       let g : each ≡ true = search parts depth 10 in
+      let viewed : onceIn (views h) at′ ≡ true = search parts depth 10 in
       let spend : onceIn (spendable h) at′ ≡ true = search parts depth 10 in
       let at-each : (k : ℕ) → k < records h → recordGood h ts (amount (at′ 0)) k (at′ k) ≡ true =
       λ k l. every-range (λ k. recordGood h ts (amount (at′ 0)) k (at′ k)) 0 (records h) g k (omega arith) (omega (arith, l)) in
@@ -174,7 +204,7 @@ module _ (h : Hall) (ts b : List ℕ) (long : length b ≡ words * records h) wh
       (true-and _ _
       (true-and _ _ (sym accounts-same ∙ accounts) (okay .1 .tokens))
       (true-and _ _ (true-and _ _ firstGood fines) runs))
-      (sym (apart-same (list-different h ts (openBook h ts b) okay) small fines) ∙ spend)
+      (true-and _ _ (sym views-same ∙ viewed) (sym (once-same small fines) ∙ spend))
 
   -- ---- and back
   whole-sound : whole ≡ true → slipSound h ts b ≡ true
@@ -183,21 +213,19 @@ module _ (h : Hall) (ts b : List ℕ) (long : length b ≡ words * records h) wh
       let accounts : accountsGood h at ≡ true = search parts depth 10 in
       let list : goodList ts ≡ true = search parts depth 10 in
       let own : ownGood h ts d b ≡ true = search parts depth 10 in
-      let different : allDifferent ts ≡ true = search parts depth 10 in
-      let spend : apartGood h ts b ≡ true = search parts depth 10 in
+      let viewed : onceIn (views h) at ≡ true = search parts depth 10 in
+      let spend : allDifferent (heldIn b (carnets h) ++ openedIn ts b (lines h)) ≡ true = search parts depth 10 in
       let firstGood : every (λ k. recordGood h ts d k (at k)) (range 0 (number h (Line 0 0))) ≡ true = search parts depth 10 in
       let fines : every (λ k. fine (at k) && slipLineGood ts d (at k)) (lines h) ≡ true = search parts depth 10 in
       let runs : every (λ k. isRun ts (at k)) (carnets h) ≡ true = search parts depth 10 in
-      let first-at : (k : ℕ) → k < number h (Line 0 0) → recordGood h ts d k (at k) ≡ true =
-      λ k l. every-range (λ k. recordGood h ts d k (at k)) 0 (number h (Line 0 0)) firstGood k (omega arith) (omega (arith, l)) in
-      let small : d ≤ length ts = desk-dealt h ts d (at 0) (first-at 0 (omega arith)) in
+      let small : d ≤ length ts = first-few h ts b firstGood in
       let line-at : (k : ℕ) → number h (Line 0 0) ≤ k → k < records h → fine (at k) && slipLineGood ts d (at k) ≡ true =
       λ k l u. every-range (λ k. fine (at k) && slipLineGood ts d (at k)) (number h (Line 0 0)) (h .customers * h .benches) fines k l (omega (arith, u)) in
       let g : each ≡ true =
       range-every (λ k. recordGood h ts (amount (at′ 0)) k (at′ k)) 0 (records h)
       (λ k l u.
       ⊎-elim
-      (λ (m : k < number h (Line 0 0)). good-same k m ∙ first-at k m)
+      (λ (m : k < number h (Line 0 0)). good-same k m ∙ first-at h ts b firstGood k m)
       (λ (m : number h (Line 0 0) ≤ k).
       let q : fine (at k) && slipLineGood ts d (at k) ≡ true = line-at k m (omega (arith, u)) in
       good-line small k m (omega (arith, u)) (and-right (fine (at k)) _ q) ∙ and-left (fine (at k)) _ q)
@@ -211,10 +239,10 @@ module _ (h : Hall) (ts b : List ℕ) (long : length b ≡ words * records h) wh
             clauses h ts (openBook h ts b) (open-long h ts b long) .is
             ∙ true-and _ _
             (true-and _ _ (true-and _ _ (accounts-same ∙ accounts) list) g)
-            (apart-same different small fines ∙ spend);
+            (true-and _ _ (views-same ∙ viewed) (once-same small fines ∙ spend));
       }
 
-  pub slip-clauses : Chain (slipSound h ts b) (accountsGood h at) (goodList ts) (ownGood h ts d b) (apartGood h ts b)
+  pub slip-clauses : Chain (slipSound h ts b) (accountsGood h at) (goodList ts) (ownGood h ts d b) (onceGood h ts b)
   slip-clauses = record { is = alike _ _ sound-whole whole-sound }
 
 pub not-fits : (h : Hall) (ts b : List ℕ) → (length b ≡ words * records h → ⊥) → false ≡ slipSound h ts b
@@ -240,6 +268,17 @@ module _ (h : Hall) (ts b out : List ℕ) where
   unfolding openInto answer first fits
   open-done e l x w =
       let f : eqb (length out) (words * records h) ≡ true = eq-eqb _ _ l in record { number = rw (e, f); cells = w ∙ rw (e, f) }
+
+-- ---- with an index
+module _ (h : Hall) (ts xs b out : List ℕ) where
+  pub index-refused : isIndex ts xs ≡ false → Gives (openIndexed h ts xs b out) 1 out
+  unfolding openIndexed answer first
+  index-refused e = record { number = rw e; cells = rw e }
+
+  -- one that is right changes nothing
+  pub index-opens : isIndex ts xs ≡ true → {n : ℕ} {after : List ℕ} → Gives (openInto h ts b out) n after → Gives (openIndexed h ts xs b out) n after
+  unfolding openIndexed openInto
+  index-opens e g = rw e g
 
 pub slips-long : (h : Hall) (ts b : List ℕ) → slipSound h ts b ≡ true → length b ≡ words * records h
 slips-long h ts b e = slip-sound-facts h ts b e .long

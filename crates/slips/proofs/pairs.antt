@@ -1,2 +1,5 @@
 pub mod Paired
+pub mod Slipping
+pub mod Lined
+pub mod Lining
 pub mod Determined

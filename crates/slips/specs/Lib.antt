@@ -1,3 +1,4 @@
 pub mod Fine
+pub mod Placed
 pub mod Alone
 pub mod Clauses

@@ -4,6 +4,7 @@ use Rattle.rules.proofs.Determined.{Determined, determined}
 use Rattle.sound.proofs.is_good_list.Reads as is-good-list-call
 use Rattle.sound.proofs.are_good.Reads as are-good-call
 use Rattle.sound.proofs.are_accounts_good.Reads as are-accounts-good-call
+use Rattle.sound.proofs.are_views_once.Reads as are-views-once-call
 use Rattle.sound.proofs.is_sound_of.Reads as is-sound-of-call
 use Rattle.sound.proofs.is_sound.Reads as is-sound-call
 
@@ -15,6 +16,9 @@ are-good-determined κs a = determined _ _ _ (λ z e p. p)
 
 are-accounts-good-determined : (κs : _) (a : _) → Determined (are-accounts-good-call.Learnt κs a) (λ z e. z)
 are-accounts-good-determined κs a = determined _ _ _ (λ z e p. p)
+
+are-views-once-determined : (κs : _) (a : _) → Determined (are-views-once-call.Learnt κs a) (λ z e. z)
+are-views-once-determined κs a = determined _ _ _ (λ z e p. p)
 
 is-sound-of-determined : (κs : _) (a : _) → Determined (is-sound-of-call.Learnt κs a) (λ z e. z)
 is-sound-of-determined κs a = determined _ _ _ (λ z e p. p)

@@ -52,8 +52,9 @@ module _ (h : Hall) (at : ℕ → List ℕ) where
   spendable-is p q = record { is = rw (p, q) (once-both at (carnets h) (lines h)) }
 
 -- ---- the whole test, the clauses in the order in which they are made
-shuffle : (g e p s v m : Bool) → ((((g && e) && p) && s) && v) && m ≡ ((((p && v) && m) && g) && e) && s
-shuffle true true true true v m = simp and-yes
+shuffle : (g e p s v m : Bool) → ((((g && e) && p) && s) && v) && m ≡ (((p && m) && g) && e) && (v && s)
+shuffle true true true true true m = simp and-yes
+shuffle true true true true false m = simp and-no
 shuffle true true true false v m = simp and-no
 shuffle true true false s v m = refl
 shuffle true false p s v m = simp and-no
@@ -71,7 +72,7 @@ module _ (h : Hall) (ts b : List ℕ) where
     abbrev each : Bool
     each = every (λ k. recordGood h ts (amount (recordAt 0 b)) k (recordAt k b)) (range 0 (records h))
 
-    pub clauses : Chain (sound h ts b) (accountsGood h at) (goodList ts) each (onceIn (spendable h) at)
+    pub clauses : Chain (sound h ts b) (accountsGood h at) (goodList ts) each (onceIn (views h) at && onceIn (spendable h) at)
     unfolding sound fits soundBy
     clauses =
         record {

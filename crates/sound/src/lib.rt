@@ -2,10 +2,11 @@
 ghost use mathlib.Core.Path.{_≡_};
 ghost use Prim.Native.Nat.{_+_, _*_, _≤_};
 ghost use lib.ListN.{length};
-ghost use Rattle.rules.specs.Lists.{leb, min, range, every};
-ghost use Rattle.rules.specs.Hall.{mainHall, Carnet, Till, Line, number, records, spendable};
+ghost use Rattle.rules.specs.Lists.{true, _&&_, leb, min, range, every};
+ghost use Rattle.rules.specs.Hall.{mainHall, Carnet, Till, Line, number, records, spendable, views};
 ghost use Rattle.rules.specs.Records.{words, inUse, recordAt};
 ghost use Rattle.rules.specs.Sound.{goodList, recordGood, partiesGood, onceIn, moneyGood, sound};
+ghost use Rattle.index.specs.Usable.{usable};
 ghost use Rattle.sound.specs.Accounts.{accountsGood};
 
 pub mod groups;
@@ -25,13 +26,13 @@ pub fn is_good_list(list: &[u32]) -> bool
 }
 
 // Each of the first n records by itself, with d tokens dealt.
-pub fn are_good(h: Hall, list: &[u32], book: &[u32], d: usize, n: usize) -> bool
-    requires { ⌜ words * n ≤ length (now book) ⌝ }
+pub fn are_good(h: Hall, list: &[u32], index: &[u16], book: &[u32], d: usize, n: usize) -> bool
+    requires { ⌜ (words * n ≤ length (now book)) × (usable (now list) (now index) ≡ true) ⌝ }
     ensures { λ r. ⌜ r ≡ every (λ k. recordGood h (now (list .entry)) d k (recordAt k (now (book .entry)))) (range 0 n) ⌝ }
 {
     let mut k = 0;
     while k < n {
-        if !records::is_good(h, list, d, k, book::record_at(book, k)) {
+        if !records::is_good(h, list, index, d, k, book::record_at(book, k)) {
             return false;
         }
         k += 1;
@@ -104,10 +105,26 @@ pub fn are_accounts_good(h: Hall, book: &[u32]) -> bool
     if !are_parties_good(h, book) {
         return false;
     }
-    if !groups::is_once(book, book::view(h, 0), h.customers + h.benches) {
+    is_money_good(h, book)
+}
+
+// No token stands twice in the desk's views.
+pub fn are_views_once(h: Hall, book: &[u32]) -> bool
+    requires { ⌜ (h .customers ≤ 64) × (h .benches ≤ 64) × (length (now book) ≡ words * records h) ⌝ }
+    ensures { λ r. ⌜ r ≡ onceIn (views h) (λ k. recordAt k (now (book .entry))) ⌝ }
+{
+    groups::is_once(book, book::view(h, 0), h.customers + h.benches)
+}
+
+// Nor among what can be spent or cleared.
+fn is_token_once(h: Hall, book: &[u32]) -> bool
+    requires { ⌜ (h .customers ≤ 64) × (h .benches ≤ 64) × (length (now book) ≡ words * records h) ⌝ }
+    ensures { λ r. ⌜ r ≡ (onceIn (views h) (λ k. recordAt k (now (book .entry))) && onceIn (spendable h) (λ k. recordAt k (now (book .entry)))) ⌝ }
+{
+    if !are_views_once(h, book) {
         return false;
     }
-    is_money_good(h, book)
+    is_spendable_once(h, book)
 }
 
 // The cheap clauses come first.
@@ -125,10 +142,11 @@ pub fn is_sound_of(h: Hall, list: &[u32], book: &[u32]) -> bool
         return false;
     }
     let dealt = book::word_of(book, 0, 1) as usize;
-    if !are_good(h, list, book, dealt, book::records(h)) {
+    let none = [0u16; 0];
+    if !are_good(h, list, &none, book, dealt, book::records(h)) {
         return false;
     }
-    is_spendable_once(h, book)
+    is_token_once(h, book)
 }
 
 pub fn is_sound(list: &[u32], book: &[u32]) -> bool

@@ -1,10 +1,12 @@
 // What soundness asks of a record by itself. Inner, all of them: the record is one of a book whose length was tested.
 ghost use mathlib.Core.Path.{_≡_};
 ghost use lib.ListN.{length};
-ghost use Rattle.rules.specs.Lists.{_&&_, _||_, eqb, allZero, allDifferent};
+ghost use Rattle.rules.specs.Lists.{true, _&&_, _||_, eqb, allZero, allDifferent};
 ghost use Rattle.rules.specs.Records.{words, inUse, held};
 ghost use Rattle.rules.specs.Sound.{shaped, deskGood, bare, lineGood, placeGood, recordGood};
+ghost use Rattle.index.specs.Usable.{usable};
 ghost use Rattle.sound.specs.Kept.{kept};
+use index::finding;
 use rules::Hall;
 use tokens::searching;
 
@@ -125,16 +127,16 @@ fn fits_place(h: Hall, list: &[u32], k: usize, rec: &[u32]) -> bool
     is_line(rec)
 }
 
-// All that record k is asked by itself, with d tokens dealt.
-pub fn is_good(h: Hall, list: &[u32], d: usize, k: usize, rec: &[u32]) -> bool
-    requires { ⌜ length (now rec) ≡ words ⌝ }
+// All that record k is asked by itself, with d tokens dealt; its tokens are looked up by the index, where there is one.
+pub fn is_good(h: Hall, list: &[u32], index: &[u16], d: usize, k: usize, rec: &[u32]) -> bool
+    requires { ⌜ (length (now rec) ≡ words) × (usable (now list) (now index) ≡ true) ⌝ }
     ensures { λ r. ⌜ r ≡ recordGood h (now (list .entry)) d k (now (rec .entry)) ⌝ }
 {
     if !is_shaped(rec) {
         return false;
     }
     let tokens = book::tokens_of(rec);
-    if !searching::all_among(list, d, tokens) {
+    if !finding::all_among(list, index, d, tokens) {
         return false;
     }
     fits_place(h, list, k, rec)

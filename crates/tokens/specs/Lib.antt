@@ -1,3 +1,4 @@
 pub mod Laid
+pub mod Map
 pub mod Moved
 pub mod Marks

@@ -2,7 +2,7 @@
 ghost use mathlib.Core.Path.{_≡_};
 ghost use Prim.Native.Nat.{_+_, _≤_, min};
 ghost use lib.ListN.{length, take, drop};
-ghost use Rattle.rules.specs.Lists.{every, allZero, isIn, allDifferent, sameList, placeOf};
+ghost use Rattle.rules.specs.Lists.{allZero, isIn, allDifferent, sameList, placeOf};
 
 // One token after the other, up to the hit: of few tokens, and in the block that has the token.
 pub fn first_hit(list: &[u32], token: u32) -> usize
@@ -86,20 +86,6 @@ pub fn all_different(list: &[u32]) -> bool
         if is_in(&list[i..], token) {
             return false;
         }
-    }
-    true
-}
-
-// Whether each of some tokens is among the first n of a list.
-pub fn all_among(list: &[u32], n: usize, tokens: &[u32]) -> bool
-    ensures { λ r. ⌜ r ≡ every (λ t. isIn t (take n (now (list .entry)))) (now (tokens .entry)) ⌝ }
-{
-    let mut i = 0;
-    while i < tokens.len() {
-        if !is_among(list, n, tokens[i]) {
-            return false;
-        }
-        i += 1;
     }
     true
 }

@@ -144,6 +144,31 @@ pub fn open_into(tokens: &[u32], slips: &[u32], plain: &mut [u32]) -> Result<(),
     answered(unsafe { raw::gs_slip_open(list, n, slips.as_ptr(), words, plain.as_mut_ptr(), room) })
 }
 
+/// Makes the index of a list; 1 if the list isn't good or the index hasn't [`places::INDEX_ENTRIES`].
+pub fn build_index(tokens: &[u32], index: &mut [u16]) -> Result<(), Refused> {
+    answered(unsafe { raw::gs_index_build(tokens.as_ptr(), tokens.len(), index.as_mut_ptr(), index.len()) })
+}
+
+/// Whether the list is good and this is its index, entry for entry.
+pub fn is_index(tokens: &[u32], index: &[u16]) -> bool {
+    unsafe { raw::gs_index_check(tokens.as_ptr(), tokens.len(), index.as_ptr(), index.len()) == 0 }
+}
+
+/// Looks numbers up: `found[i]` becomes the place of `numbers[i]` in the list, or the list's length if it is no token. Refuses
+/// with 1 unless [`is_index`] holds and there are as many places as numbers. The index is checked once, so look up many.
+pub fn look_up(tokens: &[u32], index: &[u16], numbers: &[u32], found: &mut [u32]) -> Result<(), Refused> {
+    let (list, n, entries, count) = (tokens.as_ptr(), tokens.len(), index.len(), numbers.len());
+    let (asked, to, room) = (numbers.as_ptr(), found.as_mut_ptr(), found.len());
+    answered(unsafe { raw::gs_index_places(list, n, index.as_ptr(), entries, asked, count, to, room) })
+}
+
+/// As [`open_into`], but each slip is looked up with the index; refused with 1 also where [`is_index`] doesn't hold.
+pub fn open_with_index(tokens: &[u32], index: &[u16], slips: &[u32], plain: &mut [u32]) -> Result<(), Refused> {
+    let (list, n, entries, words, room) = (tokens.as_ptr(), tokens.len(), index.len(), slips.len(), plain.len());
+    let (from, to) = (slips.as_ptr(), plain.as_mut_ptr());
+    answered(unsafe { raw::gs_slip_open_indexed(list, n, index.as_ptr(), entries, from, words, to, room) })
+}
+
 /// Writes a book of either form as bytes; 1 if a length is wrong. Soundness isn't asked.
 pub fn write_book(book: &[u32], bytes: &mut [u8]) -> Result<(), Refused> {
     answered(unsafe { raw::gs_book_to_bytes(book.as_ptr(), book.len(), bytes.as_mut_ptr(), bytes.len()) })

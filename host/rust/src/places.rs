@@ -10,6 +10,8 @@ pub const BOOK_WORDS: usize = 6372;
 pub const BOOK_BYTES: usize = 25488;
 /// The bytes of one record on a tape.
 pub const TAPE_BYTES: usize = 8;
+/// The entries of a list's index.
+pub const INDEX_ENTRIES: usize = 8192;
 /// The most tokens in a list.
 pub const MOST_TOKENS: usize = 4096;
 /// The customers, numbered from 0.

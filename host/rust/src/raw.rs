@@ -10,6 +10,16 @@ extern "C" {
     pub fn gs_slip_open(
         tokens: *const u32, n: usize, slips: *const u32, words: usize, plain: *mut u32, plain_words: usize,
     ) -> u8;
+    pub fn gs_index_build(tokens: *const u32, n: usize, index: *mut u16, entries: usize) -> u8;
+    pub fn gs_index_check(tokens: *const u32, n: usize, index: *const u16, entries: usize) -> u8;
+    pub fn gs_index_places(
+        tokens: *const u32, n: usize, index: *const u16, entries: usize, numbers: *const u32, count: usize,
+        places: *mut u32, place_count: usize,
+    ) -> u8;
+    pub fn gs_slip_open_indexed(
+        tokens: *const u32, n: usize, index: *const u16, entries: usize, slips: *const u32, words: usize, plain: *mut u32,
+        plain_words: usize,
+    ) -> u8;
     pub fn gs_sound(tokens: *const u32, n: usize, book: *const u32, words: usize) -> u8;
     pub fn gs_slip_sound(tokens: *const u32, n: usize, book: *const u32, words: usize) -> u8;
     pub fn gs_step(

@@ -62,6 +62,34 @@ fn forms_are_told_apart() {
     assert_eq!(number(gingerstall::open_into(&TOKENS, &plain, &mut opened)), 1);
 }
 
+/// Token 21 begins at entry 2768 and token 22 at 2051: their hashes modulo 8,192.
+#[test]
+fn an_index_is_built_and_used() {
+    let mut index = vec![99; INDEX_ENTRIES + 1];
+    assert_eq!(number(gingerstall::build_index(&TOKENS, &mut index)), 1);
+    assert_eq!(number(gingerstall::build_index(&[7, 7], &mut index[1..])), 1);
+    assert_eq!(index, vec![99; INDEX_ENTRIES + 1]);
+    index.pop();
+    assert!(!gingerstall::is_index(&TOKENS, &index));
+    assert_eq!(gingerstall::build_index(&TOKENS, &mut index), Ok(()));
+    assert_eq!((index[2768], index[2051], index.iter().filter(|entry| **entry != 0).count()), (1, 2, 14));
+    assert!(gingerstall::is_index(&TOKENS, &index) && !gingerstall::is_index(&TOKENS[1..], &index));
+
+    let mut found = [99; 4];
+    assert_eq!(number(gingerstall::look_up(&TOKENS, &index, &[34, 21, 20], &mut found)), 1);
+    assert_eq!(found, [99; 4]);
+    assert_eq!(gingerstall::look_up(&TOKENS, &index, &[34, 21, 20, 23], &mut found), Ok(()));
+    assert_eq!(found, [13, 0, 14, 2]);
+
+    let (slips, mut opened) = (stepped(Form::Slip), vec![7; BOOK_WORDS]);
+    assert_eq!(number(gingerstall::open_with_index(&TOKENS, &index[1..], &slips, &mut opened)), 1);
+    assert_eq!(opened, vec![7; BOOK_WORDS]);
+    assert_eq!(gingerstall::open_with_index(&TOKENS, &index, &slips, &mut opened), Ok(()));
+    assert_eq!(opened, stepped(Form::Plain));
+    index.swap(2768, 2051);
+    assert_eq!(number(gingerstall::open_with_index(&TOKENS, &index, &slips, &mut opened)), 1);
+}
+
 #[test]
 fn a_run_is_its_steps() {
     let mut tape = [0; 6 * TAPE_BYTES];

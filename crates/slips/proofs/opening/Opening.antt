@@ -19,11 +19,12 @@ use Rattle.tokens.specs.Laid.{laid}
 use Rattle.tokens.proofs.laying.Laying.{laid-nothing, laid-all, laid-behind}
 
 -- ---- one slip
-pub slip-taken : (ts : List ℕ) (t n p m : ℕ) → p ≡ placeOf t ts → m ≡ min n (length ts - p)
-    → take (p + m - p) (drop p ts) ≡ openSlip ts t n
+pub part-taken : (ts : List ℕ) (p n m : ℕ) → m ≡ min n (length ts - p) → take (p + m - p) (drop p ts) ≡ take n (drop p ts)
+part-taken ts p n m most = ap (λ (i : ℕ). take (p + i - p) (drop p ts)) most ∙ part-most p n ts
+
+pub slip-taken : (ts part : List ℕ) (t n p : ℕ) → p ≡ placeOf t ts → part ≡ take n (drop p ts) → part ≡ openSlip ts t n
 unfolding openSlip
-slip-taken ts t n p m at most =
-    ap (λ (i : ℕ). take (p + i - p) (drop p ts)) most ∙ part-most p n ts ∙ ap (λ (i : ℕ). take n (drop i ts)) at
+slip-taken ts part t n p at e = e ∙ ap (λ (i : ℕ). take n (drop i ts)) at
 
 -- ---- the slips left
 pub slips-none : (ts pairs out : List ℕ) (left : ℕ) → left ≡ 0 → out ≡ laid (openSlips ts left pairs) out

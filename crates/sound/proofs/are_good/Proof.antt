@@ -12,16 +12,16 @@ use Rattle.sound.proofs.are_good.Statement.{statement}
 use Rattle.sound.proofs.are_good.Tie as tie
 
 abbrev Inv-loop : tie.InvT-loop
-Inv-loop h list book d n k₀ k = Upto (λ j. recordGood h list d j (recordAt j book)) 0 n k
+Inv-loop h list index book d n k₀ k = Upto (λ j. recordGood h list d j (recordAt j book)) 0 n k
 
 abbrev μ-loop : tie.MeasureT-loop
-μ-loop h list book d n k₀ k = n - k
+μ-loop h list index book d n k₀ k = n - k
 
 abbrev looped : tie.After-is-good Inv-loop μ-loop → tie.At-loop Inv-loop μ-loop
 looped c = c .before .before .before
 
 abbrev begun : tie.At-loop Inv-loop μ-loop → tie.Start Inv-loop μ-loop
-begun c = c .before .before .before
+begun c = c .before .before .before .before
 
 good : (c : tie.After-is-good Inv-loop μ-loop) → let l = looped c in let s = begun l .args in
     c .is-good .result ≡ recordGood (s .h) (s .list .now) (s .d) (l .loop .k) (recordAt (l .loop .k) (s .book .now))
@@ -37,7 +37,7 @@ record-at-requires : tie.Need-record-at-requires Inv-loop μ-loop
 record-at-requires c κs = search needs
 
 is-good-requires : tie.Need-is-good-requires Inv-loop μ-loop
-is-good-requires c κs = block-size words _ _ _ (omega arith) (c .record-at .ensures)
+is-good-requires c κs = (block-size words _ _ _ (omega arith) (c .record-at .ensures), search needs)
 
 returns : tie.Need-returns Inv-loop μ-loop
 returns c =

@@ -10,6 +10,7 @@ use Rattle.rules.specs.Hall.{records}
 use Rattle.rules.specs.Records.{words, amount, recordAt}
 use Rattle.rules.specs.Sound.{recordGood}
 use Rattle.rules.proofs.Tests.{first-fails, second-fails, third-fails, fourth-decides}
+use Rattle.index.proofs.Usable.{no-index}
 use Rattle.sound.proofs.Whole.{not-fits, clauses}
 use borrow.Author.Needs.{needs}
 use Rattle.sound.proofs.is_sound_of.Statement.{statement}
@@ -17,7 +18,7 @@ use Rattle.sound.proofs.is_sound_of.Tie as tie
 
 -- the clauses that have passed where the records are counted: the length, the accounts, the list
 abbrev fitting : tie.After-are-good → tie.Else1
-fitting c = c .before .before .before .before .before .before .before
+fitting c = c .before .before .before .before .before .before .before .before
 
 abbrev begun : tie.Else1 → tie.Start
 begun c = c .before .before .before .before
@@ -32,7 +33,7 @@ same-each h ts b p q = rw (p, q)
 each : (c : tie.After-are-good) → let s = begun (fitting c) .args in
     c .are-good .result ≡ every (λ k. recordGood (s .h) (s .list .now) (amount (recordAt 0 (s .book .now))) k (recordAt k (s .book .now))) (range 0 (records (s .h)))
 unfolding amount
-each c = c .are-good .ensures ∙ same-each _ _ _ (c .before .before .word-of .ensures) (c .before .records .ensures)
+each c = c .are-good .ensures ∙ same-each _ _ _ (c .before .before .before .word-of .ensures) (c .before .records .ensures)
 
 book-words-requires : tie.Need-book-words-requires
 book-words-requires c κs = search needs
@@ -61,27 +62,30 @@ word-of-requires c κs = search needs
 cast-dealt : tie.Need-cast-dealt
 cast-dealt c = search needs
 
+slice-aggregate-are-good : tie.Need-slice-aggregate-are-good
+slice-aggregate-are-good c = search needs
+
 records-requires : tie.Need-records-requires
 records-requires c κs = search needs
 
 are-good-requires : tie.Need-are-good-requires
-are-good-requires c κs = search needs
+are-good-requires c κs = (search needs, no-index _ _ (search needs))
 
 returns-4 : tie.Need-returns-4
 returns-4 c = third-fails (clauses _ _ _ (long (fitting (c .before)))) (sym (each (c .before)) ∙ not-true _ (c .if4 .taken))
 
-is-spendable-once-requires : tie.Need-is-spendable-once-requires
-is-spendable-once-requires c κs = search needs
+is-token-once-requires : tie.Need-is-token-once-requires
+is-token-once-requires c κs = search needs
 
 abbrev at-else3 : tie.After-are-good → tie.Else3
-at-else3 c = c .before .before .before
+at-else3 c = c .before .before .before .before
 
 returns-5 : tie.Need-returns-5
 returns-5 c =
     let good = c .before .before in
     let listed = at-else3 good in
     let paid = listed .before .before in
-    c .is-spendable-once .ensures
+    c .is-token-once .ensures
     ∙ fourth-decides (clauses _ _ _ (long (fitting good)))
     (sym (paid .before .are-accounts-good .ensures) ∙ not-false _ (paid .if2 .left))
     (sym (listed .before .is-good-list .ensures) ∙ not-false _ (listed .if3 .left))
@@ -99,8 +103,9 @@ is-sound-of-spec =
     returns-3
     word-of-requires
     cast-dealt
+    slice-aggregate-are-good
     records-requires
     are-good-requires
     returns-4
-    is-spendable-once-requires
+    is-token-once-requires
     returns-5)

@@ -7,7 +7,6 @@ use Rattle.tokens.proofs.searching.is_in.Reads as is-in-call
 use Rattle.tokens.proofs.searching.smaller.Reads as smaller-call
 use Rattle.tokens.proofs.searching.is_among.Reads as is-among-call
 use Rattle.tokens.proofs.searching.all_different.Reads as all-different-call
-use Rattle.tokens.proofs.searching.all_among.Reads as all-among-call
 use Rattle.tokens.proofs.searching.is_blank.Reads as is-blank-call
 use Rattle.tokens.proofs.searching.same_list.Reads as same-list-call
 
@@ -28,9 +27,6 @@ is-among-determined κs a = determined _ _ _ (λ z e p. p)
 
 all-different-determined : (κs : _) (a : _) → Determined (all-different-call.Learnt κs a) (λ z e. z)
 all-different-determined κs a = determined _ _ _ (λ z e p. p)
-
-all-among-determined : (κs : _) (a : _) → Determined (all-among-call.Learnt κs a) (λ z e. z)
-all-among-determined κs a = determined _ _ _ (λ z e p. p)
 
 is-blank-determined : (κs : _) (a : _) → Determined (is-blank-call.Learnt κs a) (λ z e. z)
 is-blank-determined κs a = determined _ _ _ (λ z e p. p)

@@ -13,10 +13,10 @@ use Rattle.slips.proofs.opening.open_all.Statement.{statement}
 use Rattle.slips.proofs.opening.open_all.Tie as tie
 
 abbrev Inv-loop : tie.InvT-loop
-Inv-loop list slips plain₀ lines n front k₀ plain k = Opened list slips lines n plain k
+Inv-loop list index slips plain₀ lines n front k₀ plain k = Opened list slips lines n plain k
 
 abbrev μ-loop : tie.MeasureT-loop
-μ-loop list slips plain₀ lines n front k₀ plain k = n - k
+μ-loop list index slips plain₀ lines n front k₀ plain k = n - k
 
 -- where the lines' first number and the last record's are known, from where the front is laid and from the loop
 abbrev numbered : tie.After-lay Inv-loop μ-loop → tie.After-records Inv-loop μ-loop
@@ -26,7 +26,7 @@ abbrev looped : tie.At-loop Inv-loop μ-loop → tie.After-records Inv-loop μ-l
 looped c = numbered (c .before .before .before)
 
 abbrev begun : tie.After-records Inv-loop μ-loop → tie.Start Inv-loop μ-loop
-begun c = c .before .before .before .before .before
+begun c = c .before .before .before .before .before .before
 
 line-requires : tie.Need-line-requires Inv-loop μ-loop
 line-requires c κs = search needs
@@ -80,6 +80,7 @@ open-line-requires c κs =
     let s = begun (looped l) in (
       ap length (c .before .record-at .ensures) ∙ block-long words (l .loop .k) (s .args .slips .now) (omega arith),
       ap length (part-block words (l .loop .k) (l .loop .plain)) ∙ block-long words (l .loop .k) (l .loop .plain) (omega (arith, l .loop .inv .size)),
+      s .pre .4,
     )
 
 add-k : tie.Need-add-k Inv-loop μ-loop

@@ -42,13 +42,13 @@ part-open-slips-end : tie.Need-part-open-slips-end
 part-open-slips-end c = search needs
 
 abbrev begun-from-smaller : tie.After-smaller → tie.Start
-begun-from-smaller c = c .before .before .before .before .before .before .before .before .before .before .before .before .before
+begun-from-smaller c = c .before .before .before .before .before .before .before .before .before .before .before .before .before .before
 
 open-slips-requires : tie.Need-open-slips-requires
 open-slips-requires c κs =
     let few = c .before .before in
     let s = begun-from-smaller few in
-    pairs-fit (s .args .rec .now) _ (few .smaller .result) (s .pre .0) (omega (arith, few .smaller .ensures)) (c .before .cells .ensures)
+    (pairs-fit (s .args .rec .now) _ (few .smaller .result) (s .pre .0) (omega (arith, few .smaller .ensures)) (c .before .cells .ensures), s .pre .2)
 
 same-length : tie.Need-same-length
 same-length c = search needs
@@ -60,7 +60,7 @@ abbrev at-sales : tie.After-count → tie.After-sales
 at-sales c = c .before .before .before .before
 
 abbrev begun-from-sales : tie.After-sales → tie.Start
-begun-from-sales c = c .before .before .before .before
+begun-from-sales c = c .before .before .before .before .before
 
 abbrev at-cells : tie.After-slice-known3 → tie.After-cells
 at-cells c = c .before .before .before .before

@@ -1,51 +1,33 @@
--- Each of the lines looked at is good.
-use mathlib.Core.Path.{_≡_, sym, ap, _∙_}
-use Prim.Native.Nat.{_+_, _-_}
+-- What is left is good, and new to the map as it stands, exactly when all is.
+use mathlib.Core.Path.{refl, ap, _∙_}
+use Prim.Native.Nat.{ℕ, _+_, _-_}
 use native.Mathlib.Omega.{arith}
-use lib.ListN.{length}
+use lib.ListN.{replicate}
 use borrow.Author.Tests.{not-true, not-false}
-use Rattle.rules.specs.Lists.{_&&_}
-use Rattle.rules.specs.Records.{words, recordAt}
-use Rattle.rules.specs.Slips.{slipLineGood}
-use Rattle.rules.proofs.Tests.{true-and, and-no}
+use Rattle.rules.specs.Lists.{[]}
+use Rattle.rules.specs.Records.{words}
 use Rattle.laws.proofs.Blocks.{block-size}
-use Rattle.laws.proofs.Loops.{Upto, upto-all, upto-end, upto-no, upto-yes}
-use Rattle.slips.specs.Fine.{fine}
+use Rattle.tokens.proofs.map.Marked.{mapped-too}
+use Rattle.slips.proofs.pairs.Lining.{Lining, lines-all, lines-end, line-no, line-yes}
 use borrow.Author.Needs.{needs}
 use Rattle.slips.proofs.pairs.are_lines_good.Statement.{statement}
 use Rattle.slips.proofs.pairs.are_lines_good.Tie as tie
 
 abbrev Inv-loop : tie.InvT-loop
-Inv-loop list d book a n i₀ i = Upto (λ k. fine (recordAt k book) && slipLineGood list d (recordAt k book)) a n i
+Inv-loop list index d book a n map₀ i₀ map i = Lining list d book a n map₀ map i
 
 abbrev μ-loop : tie.MeasureT-loop
-μ-loop list d book a n i₀ i = n - i
+μ-loop list index d book a n map₀ i₀ map i = n - i
 
-abbrev begun : tie.At-loop Inv-loop μ-loop → tie.Start Inv-loop μ-loop
-begun c = c .before .before .before
+-- back to the loop, and to the arguments
+abbrev turned : tie.After-is-line-good Inv-loop μ-loop → tie.In-loop Inv-loop μ-loop
+turned c = c .before .before .before
 
-long : (c : tie.After-record-at Inv-loop μ-loop) → length (c .record-at .result .now) ≡ words
-long c =
-    let l = c .before .before in
-    let s = begun l .args in
-    block-size words (s .a + l .loop .i) (s .book .now) _ (omega arith) (c .record-at .ensures)
-
-abbrev looped : tie.After-is-fine Inv-loop μ-loop → tie.At-loop Inv-loop μ-loop
-looped c = c .before .before .before
-
-fined : (c : tie.After-is-fine Inv-loop μ-loop) → let l = looped c in let s = begun l .args in
-    c .is-fine .result ≡ fine (recordAt (s .a + l .loop .i) (s .book .now))
-fined c = c .is-fine .ensures ∙ ap fine (c .before .record-at .ensures)
-
-abbrev at-is-fine : tie.After-is-slip-line Inv-loop μ-loop → tie.After-is-fine Inv-loop μ-loop
-at-is-fine c = c .before .before
-
-slips : (c : tie.After-is-slip-line Inv-loop μ-loop) → let l = looped (c .before .before) in let s = begun l .args in
-    c .is-slip-line .result ≡ slipLineGood (s .list .now) (s .d) (recordAt (s .a + l .loop .i) (s .book .now))
-slips c = let s = begun (looped (c .before .before)) .args in c .is-slip-line .ensures ∙ ap (slipLineGood (s .list .now) (s .d)) (at-is-fine c .before .record-at .ensures)
+abbrev begun : tie.In-loop Inv-loop μ-loop → tie.Start Inv-loop μ-loop
+begun c = c .before .before .before .before .before .before
 
 loop-holds : tie.Need-loop-holds Inv-loop μ-loop
-loop-holds c = upto-all _ _ _
+loop-holds c = lines-all _ _ _ _ _ _
 
 add-record-at : tie.Need-add-record-at Inv-loop μ-loop
 add-record-at c = search needs
@@ -53,21 +35,35 @@ add-record-at c = search needs
 record-at-requires : tie.Need-record-at-requires Inv-loop μ-loop
 record-at-requires c κs = search needs
 
-is-fine-requires : tie.Need-is-fine-requires Inv-loop μ-loop
-is-fine-requires c κs = long c
+is-line-good-requires : tie.Need-is-line-good-requires Inv-loop μ-loop
+is-line-good-requires c κs =
+    let turn = c .before .before in
+    let s = begun turn in (
+      block-size words (s .args .a + turn .before .loop .i) (s .args .book .now) _ (omega arith) (c .before .record-at .ensures),
+      s .pre .1,
+      s .pre .2,
+      s .pre .3,
+      mapped-too _ _ (turn .before .loop .inv .size) (s .pre .4),
+    )
+
+wipe-requires : tie.Need-wipe-requires Inv-loop μ-loop
+wipe-requires c κs = search needs
+
+same-length : tie.Need-same-length Inv-loop μ-loop
+same-length c = search needs
 
 returns : tie.Need-returns Inv-loop μ-loop
 returns c =
-    let l = looped (c .before) in
-    upto-no _ _ _ (l .loop .i) (l .loop .inv) (omega arith) (rw (sym (fined (c .before)) ∙ not-true _ (c .if1 .taken)))
-
-is-slip-line-requires : tie.Need-is-slip-line-requires Inv-loop μ-loop
-is-slip-line-requires c κs = long (c .before .before)
-
-returns-2 : tie.Need-returns-2 Inv-loop μ-loop
-returns-2 c =
-    let l = looped (at-is-fine (c .before)) in
-    upto-no _ _ _ (l .loop .i) (l .loop .inv) (omega arith) (simp (sym (slips (c .before)) ∙ not-true _ (c .if2 .taken), and-no))
+    let wiped = c .before .before in
+    let line = wiped .before .before .before .before .before in
+    let turn = turned line in
+    let failed =
+    line-no _ _ _ _ _ _ (turn .before .loop .inv) (turn .loop-test .taken) (line .before .before .record-at .ensures) (line .is-line-good .ensures)
+    {after′ = []} (not-true _ (wiped .before .before .if1 .taken)) in
+    record {
+      answer = failed .answer;
+      cells = wiped .wipe .ensures ∙ ap (λ (n : ℕ). replicate n 0) (line .is-line-good .kept .1 .1 .1 .1 .0 ∙ turn .before .loop .inv .size);
+    }
 
 add-i : tie.Need-add-i Inv-loop μ-loop
 add-i c = search needs
@@ -77,12 +73,17 @@ loop-less c = search needs
 
 loop-again : tie.Need-loop-again Inv-loop μ-loop
 loop-again c =
-    let l = looped (at-is-fine (c .before)) in
-    upto-yes _ _ _ (l .loop .i) (l .loop .inv) (omega arith)
-    (true-and _ _ (sym (fined (at-is-fine (c .before))) ∙ not-false _ (c .before .before .if1 .left)) (sym (slips (c .before)) ∙ not-false _ (c .if2 .left)))
+    let line = c .before .before .before in
+    let turn = turned line in
+    line-yes _ _ _ _ _ _ (turn .before .loop .inv) (turn .loop-test .taken) (line .before .before .record-at .ensures) (line .is-line-good .ensures) (not-false _ (c .if1 .left))
 
-returns-3 : tie.Need-returns-3 Inv-loop μ-loop
-returns-3 c = upto-end _ _ _ _ (c .before .loop .inv) (c .loop-test .left)
+same-length-2 : tie.Need-same-length-2 Inv-loop μ-loop
+same-length-2 c = search needs
+
+returns-2 : tie.Need-returns-2 Inv-loop μ-loop
+returns-2 c =
+    let passed = lines-end _ _ _ _ _ _ (c .before .loop .inv) (c .loop-test .left) in
+    record { answer = passed .answer; cells = passed .bits refl }
 
 pub are-lines-good-spec : {M : Type 1} → statement M
 are-lines-good-spec =
@@ -93,11 +94,12 @@ are-lines-good-spec =
     loop-holds
     add-record-at
     record-at-requires
-    is-fine-requires
+    is-line-good-requires
+    wipe-requires
+    same-length
     returns
-    is-slip-line-requires
-    returns-2
     add-i
     loop-less
     loop-again
-    returns-3)
+    same-length-2
+    returns-2)

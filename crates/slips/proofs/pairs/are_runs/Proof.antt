@@ -12,16 +12,16 @@ use Rattle.slips.proofs.pairs.are_runs.Statement.{statement}
 use Rattle.slips.proofs.pairs.are_runs.Tie as tie
 
 abbrev Inv-loop : tie.InvT-loop
-Inv-loop list book a n i₀ i = Upto (λ k. isRun list (recordAt k book)) a n i
+Inv-loop list index book a n i₀ i = Upto (λ k. isRun list (recordAt k book)) a n i
 
 abbrev μ-loop : tie.MeasureT-loop
-μ-loop list book a n i₀ i = n - i
+μ-loop list index book a n i₀ i = n - i
 
 abbrev looped : tie.After-is-run Inv-loop μ-loop → tie.At-loop Inv-loop μ-loop
 looped c = c .before .before .before
 
 abbrev begun : tie.At-loop Inv-loop μ-loop → tie.Start Inv-loop μ-loop
-begun c = c .before .before .before
+begun c = c .before .before .before .before
 
 run : (c : tie.After-is-run Inv-loop μ-loop) → let l = looped c in let s = begun l .args in
     c .is-run .result ≡ isRun (s .list .now) (recordAt (s .a + l .loop .i) (s .book .now))
@@ -40,7 +40,7 @@ is-run-requires : tie.Need-is-run-requires Inv-loop μ-loop
 is-run-requires c κs =
     let l = c .before .before in
     let s = begun l .args in
-    block-size words (s .a + l .loop .i) (s .book .now) _ (omega arith) (c .record-at .ensures)
+    (block-size words (s .a + l .loop .i) (s .book .now) _ (omega arith) (c .record-at .ensures), search needs)
 
 returns : tie.Need-returns Inv-loop μ-loop
 returns c =

@@ -1,58 +1,87 @@
--- What is left is good exactly when all is.
-use mathlib.Core.Path.{sym, _∙_}
-use Prim.Native.Nat.{_+_, _-_, _*_}
+-- What is left is good, and new to the map as it stands, exactly when all is.
+use Prim.Native.Nat.{_+_, _*_, _-_}
 use native.Mathlib.Omega.{arith}
 use borrow.Author.Tests.{not-true, not-false}
-use Rattle.rules.specs.Slips.{slipsGood}
-use Rattle.laws.proofs.Pairs.{Behind, behind-all, behind-end, behind-no, behind-yes}
-use Rattle.slips.proofs.pairs.Paired.{good-each}
+use Rattle.tokens.proofs.map.Marked.{mapped-too}
+use Rattle.slips.proofs.pairs.Slipping.{Slipping, slips-all, slips-end, slip-bad, slip-inside, slip-twice, slip-marked}
 use borrow.Author.Needs.{needs}
 use Rattle.slips.proofs.pairs.are_slips_good.Statement.{statement}
 use Rattle.slips.proofs.pairs.are_slips_good.Tie as tie
 
 abbrev Inv-loop : tie.InvT-loop
-Inv-loop list d k pairs i₀ i = Behind (slipsGood list d) k pairs i
+Inv-loop list index d k pairs map₀ i₀ map i = Slipping list d k pairs map₀ map i
 
 abbrev μ-loop : tie.MeasureT-loop
-μ-loop list d k pairs i₀ i = k - i
+μ-loop list index d k pairs map₀ i₀ map i = k - i
+
+-- back to the loop, and to the arguments
+abbrev turned : tie.After-slip-place Inv-loop μ-loop → tie.In-loop Inv-loop μ-loop
+turned c = c .before .before .before
+
+abbrev begun : tie.In-loop Inv-loop μ-loop → tie.Start Inv-loop μ-loop
+begun c = c .before .before .before .before .before .before
+
+abbrev marked : tie.After-mark-run Inv-loop μ-loop → tie.After-slip-place Inv-loop μ-loop
+marked c = c .before .before .before
 
 loop-holds : tie.Need-loop-holds Inv-loop μ-loop
-loop-holds c = behind-all (good-each _ _) _ _
+loop-holds c = slips-all _ _ _ _ _
 
-mul-is-slip-good : tie.Need-mul-is-slip-good Inv-loop μ-loop
-mul-is-slip-good c = search needs
+mul-n : tie.Need-mul-n Inv-loop μ-loop
+mul-n c = search needs
 
-mul-is-slip-good-2 : tie.Need-mul-is-slip-good-2 Inv-loop μ-loop
-mul-is-slip-good-2 c = search needs
+add-n : tie.Need-add-n Inv-loop μ-loop
+add-n c = search needs
 
-shared-slice-read-is-slip-good : tie.Need-shared-slice-read-is-slip-good Inv-loop μ-loop
-shared-slice-read-is-slip-good c = search needs
+mul-n-2 : tie.Need-mul-n-2 Inv-loop μ-loop
+mul-n-2 c = search needs
 
-mul-is-slip-good-3 : tie.Need-mul-is-slip-good-3 Inv-loop μ-loop
-mul-is-slip-good-3 c = search needs
+shared-slice-read-n : tie.Need-shared-slice-read-n Inv-loop μ-loop
+shared-slice-read-n c = search needs
 
-add-is-slip-good : tie.Need-add-is-slip-good Inv-loop μ-loop
-add-is-slip-good c = search needs
+cast-n : tie.Need-cast-n Inv-loop μ-loop
+cast-n c = omega (arith, c .shared-slice-known4 .given (2 * c .before .before .loop .i + 1))
 
-mul-is-slip-good-4 : tie.Need-mul-is-slip-good-4 Inv-loop μ-loop
-mul-is-slip-good-4 c = search needs
+mul-slip-place : tie.Need-mul-slip-place Inv-loop μ-loop
+mul-slip-place c = search needs
 
-shared-slice-read-is-slip-good-2 : tie.Need-shared-slice-read-is-slip-good-2 Inv-loop μ-loop
-shared-slice-read-is-slip-good-2 c = search needs
+mul-slip-place-2 : tie.Need-mul-slip-place-2 Inv-loop μ-loop
+mul-slip-place-2 c = search needs
 
-abbrev looped : tie.After-shared-slice-known4 Inv-loop μ-loop → tie.At-loop Inv-loop μ-loop
-looped c = c .before .before .before
+shared-slice-read-slip-place : tie.Need-shared-slice-read-slip-place Inv-loop μ-loop
+shared-slice-read-slip-place c = search needs
 
-cast-is-slip-good : tie.Need-cast-is-slip-good Inv-loop μ-loop
-cast-is-slip-good c = omega (arith, c .shared-slice-known4 .given (2 * looped c .loop .i + 1))
+slip-place-requires : tie.Need-slip-place-requires Inv-loop μ-loop
+slip-place-requires c κs = search needs
 
-is-slip-good-requires : tie.Need-is-slip-good-requires Inv-loop μ-loop
-is-slip-good-requires c κs = search needs
+same-length : tie.Need-same-length Inv-loop μ-loop
+same-length c = search needs
 
 returns : tie.Need-returns Inv-loop μ-loop
 returns c =
-    let l = looped (c .before .before) in
-    behind-no (good-each _ _) _ _ (l .loop .i) (l .loop .inv) (omega arith) (sym (c .before .is-slip-good .ensures) ∙ not-true _ (c .if1 .taken))
+    let turn = turned (c .before) in
+    slip-bad _ _ _ _ _ _ _ (turn .before .loop .inv) (turn .loop-test .taken) (c .before .slip-place .ensures) (c .if1 .taken)
+
+mark-run-requires : tie.Need-mark-run-requires Inv-loop μ-loop
+mark-run-requires c κs =
+    let found = c .before .before in
+    let turn = turned found in
+    let s = begun turn in (
+      mapped-too _ _ (turn .before .loop .inv .size) (s .pre .4),
+      slip-inside _ _ _ _ _ _ _ (turn .before .loop .inv) (turn .loop-test .taken) (found .slip-place .ensures) (s .pre .1) (s .pre .2) (c .before .if1 .left),
+    )
+
+same-length-2 : tie.Need-same-length-2 Inv-loop μ-loop
+same-length-2 c = search needs
+
+returns-2 : tie.Need-returns-2 Inv-loop μ-loop
+returns-2 c =
+    let run = c .before .before .before in
+    let found = marked run in
+    let turn = turned found in
+    let s = begun turn in
+    slip-twice _ _ _ _ _ _ _ (turn .before .loop .inv) (turn .loop-test .taken) (found .slip-place .ensures) (s .pre .1) (s .pre .2) (run .before .before .if1 .left)
+    (run .mark-run .ensures .new) (not-true _ (c .if2 .taken))
 
 add-i : tie.Need-add-i Inv-loop μ-loop
 add-i c = search needs
@@ -62,11 +91,18 @@ loop-less c = search needs
 
 loop-again : tie.Need-loop-again Inv-loop μ-loop
 loop-again c =
-    let l = looped (c .before .before) in
-    behind-yes (good-each _ _) _ _ (l .loop .i) (l .loop .inv) (omega arith) (sym (c .before .is-slip-good .ensures) ∙ not-false _ (c .if1 .left))
+    let run = c .before .before .before in
+    let found = marked run in
+    let turn = turned found in
+    let s = begun turn in
+    slip-marked _ _ _ _ _ _ _ (turn .before .loop .inv) (turn .loop-test .taken) (found .slip-place .ensures) (s .pre .1) (s .pre .2) (run .before .before .if1 .left)
+    (run .mark-run .ensures .new) (not-false _ (c .if2 .left)) (run .mark-run .ensures .bits)
 
-returns-2 : tie.Need-returns-2 Inv-loop μ-loop
-returns-2 c = behind-end (good-each _ _) _ _ _ (c .before .loop .inv) (c .loop-test .left)
+same-length-3 : tie.Need-same-length-3 Inv-loop μ-loop
+same-length-3 c = search needs
+
+returns-3 : tie.Need-returns-3 Inv-loop μ-loop
+returns-3 c = slips-end _ _ _ _ _ _ _ (c .before .loop .inv) (c .loop-test .left)
 
 pub are-slips-good-spec : {M : Type 1} → statement M
 are-slips-good-spec =
@@ -75,17 +111,22 @@ are-slips-good-spec =
     Inv-loop
     μ-loop
     loop-holds
-    mul-is-slip-good
-    mul-is-slip-good-2
-    shared-slice-read-is-slip-good
-    mul-is-slip-good-3
-    add-is-slip-good
-    mul-is-slip-good-4
-    shared-slice-read-is-slip-good-2
-    cast-is-slip-good
-    is-slip-good-requires
+    mul-n
+    add-n
+    mul-n-2
+    shared-slice-read-n
+    cast-n
+    mul-slip-place
+    mul-slip-place-2
+    shared-slice-read-slip-place
+    slip-place-requires
+    same-length
     returns
+    mark-run-requires
+    same-length-2
+    returns-2
     add-i
     loop-less
     loop-again
-    returns-2)
+    same-length-3
+    returns-3)

@@ -21,11 +21,11 @@ count-requires c κs = search needs
 cast-n : tie.Need-cast-n
 cast-n c = search needs
 
-shared-slice-read-slip-part : tie.Need-shared-slice-read-slip-part
-shared-slice-read-slip-part c = search needs
+shared-slice-read-part-by : tie.Need-shared-slice-read-part-by
+shared-slice-read-part-by c = search needs
 
-slip-part-requires : tie.Need-slip-part-requires
-slip-part-requires c κs = search needs
+part-by-requires : tie.Need-part-by-requires
+part-by-requires c κs = search needs
 
 tokens-of-requires : tie.Need-tokens-of-requires
 tokens-of-requires c κs = search needs
@@ -37,12 +37,12 @@ abbrev at-count : tie.After-same-list → tie.After-count
 at-count c = c .before .before .before .before
 
 abbrev begun : tie.After-same-list → tie.Start
-begun c = at-count c .before .before .before
+begun c = at-count c .before .before .before .before
 
 returns : tie.Need-returns
 returns c =
     let s = begun c .args in
-    c .same-list .ensures ∙ run-read (s .list .now) (s .rec .now) _ _ _ (at-count c .count .ensures) (c .before .before .slip-part .ensures) (c .before .tokens-of .ensures)
+    c .same-list .ensures ∙ run-read (s .list .now) (s .rec .now) _ _ _ (at-count c .count .ensures) (c .before .before .part-by .ensures) (c .before .tokens-of .ensures)
 
 pub is-run-spec : {M : Type 1} → statement M
 is-run-spec =
@@ -50,8 +50,8 @@ is-run-spec =
     (tie.spec
     count-requires
     cast-n
-    shared-slice-read-slip-part
-    slip-part-requires
+    shared-slice-read-part-by
+    part-by-requires
     tokens-of-requires
     same-list-requires
     returns)

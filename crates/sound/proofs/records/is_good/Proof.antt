@@ -11,7 +11,7 @@ use Rattle.sound.proofs.records.is_good.Statement.{statement}
 use Rattle.sound.proofs.records.is_good.Tie as tie
 
 abbrev begun : tie.After-all-among → tie.Start
-begun c = c .before .before .before .before .before .before
+begun c = c .before .before .before .before .before .before .before
 
 dealt : (c : tie.After-all-among) → let s = begun c .args in
     c .all-among .result ≡ every (λ t. isIn t (take (s .d) (s .list .now))) (held (s .rec .now))

@@ -7,15 +7,14 @@ use borrow.Author.Tests.{not-true, not-false}
 use Rattle.rules.specs.Lists.{isIn}
 use Rattle.laws.proofs.Loops.{Left, left-all, left-end, left-no, left-yes}
 use borrow.Author.Needs.{needs}
-use Rattle.tokens.proofs.searching.all_among.Statement.{statement}
-use Rattle.tokens.proofs.searching.all_among.Tie as tie
-use Rattle.tokens.proofs.searching.is_among.Reads as is-among-reads
+use Rattle.index.proofs.finding.all_among.Statement.{statement}
+use Rattle.index.proofs.finding.all_among.Tie as tie
 
 abbrev Inv-loop : tie.InvT-loop
-Inv-loop list n tokens i₀ i = Left (λ t. isIn t (take n list)) tokens i
+Inv-loop list index n tokens i₀ i = Left (λ t. isIn t (take n list)) tokens i
 
 abbrev μ-loop : tie.MeasureT-loop
-μ-loop list n tokens i₀ i = length tokens - i
+μ-loop list index n tokens i₀ i = length tokens - i
 
 loop-holds : tie.Need-loop-holds Inv-loop μ-loop
 loop-holds c = left-all _ _

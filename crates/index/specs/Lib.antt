@@ -1,0 +1,4 @@
+pub mod Usable
+pub mod Places
+pub mod Walkable
+pub mod Putting

@@ -1,0 +1,1 @@
+// No code: what follows of an index is in proofs/.

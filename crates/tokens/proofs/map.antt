@@ -1,0 +1,3 @@
+pub mod Marked
+pub mod Going
+pub mod Determined
