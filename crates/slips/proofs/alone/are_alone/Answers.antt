@@ -10,7 +10,7 @@ pub loop-i-init : goal.loop-i-init
 loop-i-init c = behind_all (alone_each _ _ _) _ _
 
 pub overflow_cast-pairs : goal.overflow_cast-pairs
-overflow_cast-pairs c = omega (arith, c.shared_slice_known-in-loop-i-2-1.given (2 * c.loop-i.i + 1))
+overflow_cast-pairs c = omega (arith, c.type_inv.pairs (2 * c.loop-i.i + 1))
 
 pub returns-then-not-is_alone : goal.returns-then-not-is_alone
 returns-then-not-is_alone c =

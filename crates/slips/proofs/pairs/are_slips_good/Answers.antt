@@ -9,7 +9,7 @@ pub loop-i-init : goal.loop-i-init
 loop-i-init c = slips_all _ _ _ _ _
 
 pub overflow_cast-n : goal.overflow_cast-n
-overflow_cast-n c = omega (arith, c.shared_slice_known-in-loop-i-1.given (2 * c.loop-i.i + 1))
+overflow_cast-n c = omega (arith, c.type_inv.pairs (2 * c.loop-i.i + 1))
 
 pub returns-then-p-d : goal.returns-then-p-d
 returns-then-p-d c =
