@@ -3,7 +3,7 @@
 use mathlib.Core.Path.{◌≡◌, sym, ap, ◌∙◌}
 use mathlib.Core.List.{append_assoc}
 use native.Mathlib.Omega.{arith}
-use Rattle.rules.specs.Lists.{ℕ, ◌+◌, true, List, ◌++◌, length, take, drop}
+use Rattle.rules.specs.Lists.{ℕ, true, List, ◌++◌}
 use Rattle.rules.specs.Hall.{main_hall}
 use Rattle.rules.specs.Sound.{empty_book}
 use Rattle.rules.specs.Form.{plain}

@@ -6,7 +6,7 @@ use native.Mathlib.Nat.{suc-add}
 use native.Mathlib.Omega.{arith}
 use lib.ListN.{length-append, length-take, length-drop, take-append-drop, set}
 use lib.Seq.{take_at, drop_at, drop-drop, length-take-le}
-use Rattle.rules.specs.Lists.{ℕ, zero, suc, ◌+◌, ◌-◌, List, [], ◌∷◌, ◌++◌, length, take, drop}
+use Rattle.rules.specs.Lists.{ℕ, zero, suc, ◌+◌, List, [], ◌∷◌, ◌++◌, length, take, drop}
 use Rattle.listing.specs.Written.{written}
 
 -- what a function says that wrote a text: the place behind it, and the bytes

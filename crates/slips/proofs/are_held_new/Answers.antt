@@ -29,14 +29,13 @@ kept c =
     c.mark_records.auto.map ∙ c.wipe.auto.map
 
 pub mark_records-requires-2 : goal.mark_records-requires-2
-mark_records-requires-2 c =
-    (
-      search rules,
-      mapped_too _ _ (c.wipe-2.auto.map ∙ kept (goal.at.mark_records-requires-2 c).After-wipe-2) c.requires.6,
-      c.requires.3,
-      listed_part _ _ _ c.requires.4 c.carnet.result c.args.h.customers (omega (arith, c.carnet.ensures)),
-      c.requires.5,
-    )
+mark_records-requires-2 c = (
+  search rules,
+  mapped_too _ _ (c.wipe-2.auto.map ∙ kept (goal.at.mark_records-requires-2 c).After-wipe-2) c.requires.6,
+  c.requires.3,
+  listed_part _ _ _ c.requires.4 c.carnet.result c.args.h.customers (omega (arith, c.carnet.ensures)),
+  c.requires.5,
+)
 
 pub returns : goal.returns
 returns c =

@@ -37,16 +37,15 @@ pub returns-then-not-are_good : goal.returns-then-not-are_good
 returns-then-not-are_good c = first_fails (asked _ _ _ (size (goal.at.returns-then-not-are_good c).After-are_good)) (sym (first (goal.at.returns-then-not-are_good c).After-are_good) ∙ c.if-not-are_good.true)
 
 pub are_held_new-requires : goal.are_held_new-requires
-are_held_new-requires c =
-    (
-      c.requires.0,
-      c.requires.1,
-      c.requires.2,
-      (good_list_lem _ c.requires.3).0,
-      first_listed _ _ _ (sym (first (goal.at.are_held_new-requires c).After-are_good) ∙ c.if-not-are_good.false),
-      c.requires.4,
-      c.requires.5,
-    )
+are_held_new-requires c = (
+  c.requires.0,
+  c.requires.1,
+  c.requires.2,
+  (good_list_lem _ c.requires.3).0,
+  first_listed _ _ _ (sym (first (goal.at.are_held_new-requires c).After-are_good) ∙ c.if-not-are_good.false),
+  c.requires.4,
+  c.requires.5,
+)
 
 pub returns-then-not-are_held_new : goal.returns-then-not-are_held_new
 returns-then-not-are_held_new c =

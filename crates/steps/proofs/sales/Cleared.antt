@@ -6,7 +6,7 @@ use borrow.Author.Tests.{eq-eqb, ltb-true, ltb-false}
 use Rattle.rules.specs.declared.Hall.{Hall}
 use Rattle.rules.specs.declared.Entry.{Entry}
 use Rattle.rules.specs.Lists.{ℕ, ◌+◌, ◌-◌, ◌*◌, Bool, true, false, cond, ◌&&◌, ltb, List, [], ◌++◌, length, all_different, without, among, first_absent}
-use Rattle.rules.specs.Hall.{most_held, most_sales, number}
+use Rattle.rules.specs.Hall.{most_held, most_sales}
 use Rattle.rules.specs.Answers.{Rule, first}
 use Rattle.rules.specs.Records.{words, amount, count, sales, handshake, held, made, with_amount, with_handshake, record_at, put}
 use Rattle.rules.specs.Tape.{Clear, kind_of, is}

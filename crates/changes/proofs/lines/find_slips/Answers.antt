@@ -35,8 +35,9 @@ overflow_add-living c = omega (arith, few (goal.at.overflow_add-living c).After-
 pub loop-i-preserved : goal.loop-i-preserved
 loop-i-preserved c =
     let on : c.if-dead-seen.dead ≡ cond (eqb c.loop-i.dead c.loop-i.seen) (c.loop-i.dead + c.find-here.result.dead) c.loop-i.dead = elim c.if-dead-seen.branch [
-      then-dead-seen w ↦ where_equal _ _ w.if-dead-seen.true w.dead-is
-    | else-dead-seen w ↦ where_unequal _ _ w.if-dead-seen.false w.dead-is ] in
+      | then-dead-seen w ↦ where_equal _ _ w.if-dead-seen.true w.dead-is
+      | else-dead-seen w ↦ where_unequal _ _ w.if-dead-seen.false w.dead-is
+    ] in
     slips_more _ _ _ _ c.loop-i.invariant c.loop-i-test.true _ c.slip_part-tokens.ensures c.find-here.ensures _ on
 
 pub returns : goal.returns

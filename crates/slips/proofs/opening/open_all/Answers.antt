@@ -18,12 +18,11 @@ loop-k-init c =
     c.lay.ensures
 
 pub open_line-requires : goal.open_line-requires
-open_line-requires c =
-    (
-      ap length c.record_at.ensures ∙ block_long words c.loop-k.k c.args.slips.now (omega arith),
-      ap length (part_block words c.loop-k.k c.loop-k.plain) ∙ block_long words c.loop-k.k c.loop-k.plain (omega (arith, c.loop-k.invariant.size)),
-      c.requires.4,
-    )
+open_line-requires c = (
+  ap length c.record_at.ensures ∙ block_long words c.loop-k.k c.args.slips.now (omega arith),
+  ap length (part_block words c.loop-k.k c.loop-k.plain) ∙ block_long words c.loop-k.k c.loop-k.plain (omega (arith, c.loop-k.invariant.size)),
+  c.requires.4,
+)
 
 pub loop-k-preserved : goal.loop-k-preserved
 loop-k-preserved c =

@@ -14,14 +14,13 @@ pub loop-i-init : goal.loop-i-init
 loop-i-init c = lines_all _ _ _ _ _ _
 
 pub is_line_good-requires : goal.is_line_good-requires
-is_line_good-requires c =
-    (
-      block_size words (c.args.a + c.loop-i.i) c.args.book.now _ (omega arith) c.record_at.ensures,
-      c.requires.1,
-      c.requires.2,
-      c.requires.3,
-      mapped_too _ _ c.loop-i.invariant.size c.requires.4,
-    )
+is_line_good-requires c = (
+  block_size words (c.args.a + c.loop-i.i) c.args.book.now _ (omega arith) c.record_at.ensures,
+  c.requires.1,
+  c.requires.2,
+  c.requires.3,
+  mapped_too _ _ c.loop-i.invariant.size c.requires.4,
+)
 
 pub returns-then-not-is_line_good : goal.returns-then-not-is_line_good
 returns-then-not-is_line_good c =

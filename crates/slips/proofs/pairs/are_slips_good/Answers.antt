@@ -16,11 +16,10 @@ returns-then-p-d c =
     slip_bad _ _ _ _ _ _ _ c.loop-i.invariant c.loop-i-test.true c.slip_place-p.ensures c.if-p-d.true
 
 pub mark_run-requires : goal.mark_run-requires
-mark_run-requires c =
-    (
-      mapped_too _ _ c.loop-i.invariant.size c.requires.4,
-      slip_inside _ _ _ _ _ _ _ c.loop-i.invariant c.loop-i-test.true c.slip_place-p.ensures c.requires.1 c.requires.2 c.if-p-d.false,
-    )
+mark_run-requires c = (
+  mapped_too _ _ c.loop-i.invariant.size c.requires.4,
+  slip_inside _ _ _ _ _ _ _ c.loop-i.invariant c.loop-i-test.true c.slip_place-p.ensures c.requires.1 c.requires.2 c.if-p-d.false,
+)
 
 pub returns-then-not-mark_run : goal.returns-then-not-mark_run
 returns-then-not-mark_run c =
