@@ -1,5 +1,5 @@
 // The form of a book: the tokens themselves in its lines, or slips.
-#[derive(Drop)]
+#[derive(Clone, Copy)]
 pub enum Form {
     Plain,
     Slip,

@@ -1,4 +1,7 @@
 // The book's records, each read as a part of the book; where each stands, how long a hall's book is, and the hall in use.
+
+#![tactic(auto)]
+
 ghost use Rattle.std.specs.Prelude.{◌≡◌, ◌+◌, ◌*◌, ◌≤◌, ◌<◌, length, get_or};
 ghost use Rattle.rules.specs.Hall.{Carnet, View, BenchView, Till, Line, number, records};
 ghost use Rattle.rules.specs.Records.{words, in_use, amount, count, sales, handshake, cells, held, record_at};

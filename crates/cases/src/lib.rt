@@ -1,1 +1,3 @@
 // No code: the cases are in proofs/.
+
+#![tactic(auto)]

@@ -1,5 +1,8 @@
 // What a granted step does to the records of a book, by their numbers. Each is written where it stands: none is copied aside.
 // Inner, all of them: a step has found the records and knows that they stand in the book.
+
+#![tactic(auto)]
+
 ghost use Rattle.std.specs.Prelude.{◌≡◌, [], ◌+◌, ◌*◌, ◌≤◌, length, drop};
 ghost use Rattle.rules.specs.Hall.{most_held};
 ghost use Rattle.rules.specs.Records.{words, amount, count, held, made, with_amount, with_handshake, record_at, put};

@@ -1,5 +1,8 @@
 // The chain of checks: for each kind, the first number of the table that applies, from 4 on. Every function is told the
 // words that the kind's tests read, and takes any words.
+
+#![tactic(auto)]
+
 ghost use Rattle.std.specs.Prelude.{◌≡◌};
 ghost use Rattle.rules.specs.Answers.{first};
 ghost use Rattle.kinds.specs.Chains.{join_customer_rules, join_bench_rules, open_rules, update_rules, stock_rules, line_rules, sale_rules, shaken_rules, clear_rules, compare_rules, bench_rules, desk_rules, top_up_rules};

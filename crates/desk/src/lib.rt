@@ -1,6 +1,9 @@
 // The desk's book: a step, and a run over a whole tape, in either form.
 // A run asks once whether the book is sound. From then on each step looks at the desk's own record and at those that it
 // names, a top up also at what stands in the views, and at no others: that a step leaves a sound book sound is a theorem.
+
+#![tactic(auto)]
+
 ghost use Rattle.std.specs.Prelude.{◌≡◌, ◌*◌, ◌≤◌, length, false};
 ghost use Rattle.rules.specs.Hall.{main_hall};
 ghost use Rattle.rules.specs.Answers.{first};

@@ -1,4 +1,7 @@
 // On file, four bytes for each word: a book to bytes and back, of which lengths alone are tested, and a token list, which has to be good.
+
+#![tactic(auto)]
+
 ghost use Rattle.std.specs.Prelude.{◌≡◌, ◌*◌, ◌/◌, ◌%◌, ◌≤◌, length};
 ghost use Rattle.rules.specs.Answers.{Gives};
 ghost use Rattle.rules.specs.Lists.{◌&&◌, eqb};

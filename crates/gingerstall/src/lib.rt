@@ -1,5 +1,8 @@
 // The library for C and Rust: the main hall's functions under names of their own, for whatever a caller lends.
 // A slice is a pointer and a count of elements. Each promise is that of the function below it.
+
+#![tactic(auto)]
+
 ghost use Rattle.std.specs.Prelude.{◌≡◌, ◌/◌, ◌%◌, length};
 ghost use Rattle.rules.specs.Answers.{Gives};
 ghost use Rattle.rules.specs.Lists.{cond};

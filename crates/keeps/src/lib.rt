@@ -1,1 +1,3 @@
 // No code: the theorems are in proofs/.
+
+#![tactic(auto)]

@@ -1,4 +1,7 @@
 // What the walk does with a part of the tape: the steps, and the lines that they print.
+
+#![tactic(auto)]
+
 ghost use Rattle.std.specs.Prelude.{◌≡◌, ◌+◌, ◌*◌, ◌≤◌, length};
 ghost use Rattle.rules.specs.Tape.{entries};
 ghost use Rattle.rules.specs.Listing.{step_lines};

@@ -1,4 +1,7 @@
 // A word as four bytes, lowest first: what the tape's amounts and the book's words have in common.
+
+#![tactic(auto)]
+
 ghost use Rattle.std.specs.Prelude.{◌≡◌, ◌+◌, ◌≤◌, ◌<◌};
 ghost use Rattle.rules.specs.Lists.{◌++◌, length, take, drop};
 ghost use Rattle.rules.specs.Bytes.{bytes_of, word_of};

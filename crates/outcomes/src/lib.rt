@@ -1,6 +1,9 @@
 // Demand 2 of the running code: a book and a tape record written out and read back are the same; read and written back, they give
 // the same bytes. Nobody has to call these functions. Their promises are the theorems: what went out comes back, whatever is
 // lent, and that a cell holds 32 bits or 8 is told by the types of what is lent.
+
+#![tactic(auto)]
+
 ghost use Rattle.rules.specs.Answers.{Gives};
 ghost use Rattle.rules.specs.Hall.{main_hall};
 ghost use Rattle.rules.specs.Bytes.{write_book, read_book};

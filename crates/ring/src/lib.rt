@@ -1,1 +1,3 @@
 // No code: what follows of an index is in proofs/.
+
+#![tactic(auto)]

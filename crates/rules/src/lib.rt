@@ -1,7 +1,9 @@
 // What the definitions of specs/ and the code have in common: three kinds of value, and the hall in use.
 
+#![tactic(auto)]
+
 // A hall, by the number of its customers and of its benches.
-#[derive(Drop)]
+#[derive(Clone, Copy)]
 pub struct Hall {
     pub customers: usize,
     pub benches: usize,
@@ -14,7 +16,7 @@ pub const MAIN: Hall = Hall {
 };
 
 // A record of the tape, all five fields. `byte3` is zero in every record that isn't refused.
-#[derive(Drop)]
+#[derive(Clone, Copy)]
 pub struct Entry {
     pub kind: u8,
     pub bench: u8,
@@ -24,7 +26,7 @@ pub struct Entry {
 }
 
 // What a step answers: its verdict, and a second number.
-#[derive(Drop)]
+#[derive(Clone, Copy)]
 pub struct Reply {
     pub verdict: u8,
     pub second: u8,

@@ -1,5 +1,8 @@
 // Is this slip book sound? It's told from the book as it stands, clause by clause. And a slip book opened into a lent plain one,
 // with an index beside the list or without one.
+
+#![tactic(auto)]
+
 ghost use Rattle.std.specs.Prelude.{◌≡◌, ◌*◌, ◌≤◌, length};
 ghost use Rattle.rules.specs.Answers.{Gives};
 ghost use Rattle.rules.specs.Lists.{true, ◌&&◌, replicate};

@@ -1,4 +1,7 @@
 // Is this book sound? The token list, the clauses of the definition one by one, and the whole test of a plain book.
+
+#![tactic(auto)]
+
 ghost use Rattle.std.specs.Prelude.{◌≡◌, ◌+◌, ◌*◌, ◌≤◌, length};
 ghost use Rattle.rules.specs.Lists.{true, ◌&&◌, leb, min, range, every};
 ghost use Rattle.rules.specs.Hall.{main_hall, Carnet, Till, Line, number, records, spendable, views};

@@ -10,7 +10,7 @@ ghost use Rattle.steps.specs.Pairs.{pair_of, bench_at, desk_at, used_up};
 use rules::{Entry, Hall};
 
 // The numbers of the records that both name: the till, and the desk's view of its bench.
-#[derive(Drop)]
+#[derive(Clone, Copy)]
 struct Pair {
     till: usize,
     view: usize,

@@ -1,5 +1,8 @@
 // A step, one kind at a time: the kind's checks in the table's order and, where they let it pass, what it changes.
 // Inner, all of them: the step has found the book sound and the record well formed, and calls the function of its kind.
+
+#![tactic(auto)]
+
 ghost use Rattle.std.specs.Prelude.{◌≡◌, ◌*◌, ◌≤◌, length};
 ghost use Rattle.rules.specs.Answers.{Gives};
 ghost use Rattle.rules.specs.Hall.{most_budget};

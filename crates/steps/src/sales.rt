@@ -14,7 +14,7 @@ use changes::lines;
 use rules::{Entry, Hall, Reply};
 
 // The numbers of the records that they name: the carnet, the desk's views of customer and bench, the line.
-#[derive(Drop)]
+#[derive(Clone, Copy)]
 struct Spots {
     carnet: usize,
     view: usize,

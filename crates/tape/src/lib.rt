@@ -1,4 +1,7 @@
 // The tape: what is refused of a record by itself, a cursor that reads the records of lent bytes, and the writer of one.
+
+#![tactic(auto)]
+
 ghost use Rattle.std.specs.Prelude.{◌≡◌, ◌+◌, ◌≤◌};
 ghost use Rattle.rules.specs.Lists.{◌||◌, not, leb, ltb, eqb, length, drop};
 ghost use Rattle.rules.specs.Hall.{main_hall};
@@ -109,20 +112,20 @@ pub fn judge(h: Hall, e: Entry) -> u8
 }
 
 // A reader's place on the tape.
-#[derive(Drop)]
+#[derive(Clone, Copy)]
 pub struct Cursor {
     pub at: usize,
 }
 
 // Number 0 with the record, number 2 or 3 with the record that is refused, and number 16.
-#[derive(Drop)]
+#[derive(Clone, Copy)]
 pub enum Got {
     Good(Entry),
     Bad(u8, Entry),
     Cut,
 }
 
-#[derive(Drop)]
+#[derive(Clone, Copy)]
 pub struct Reading {
     pub got: Got,
     pub next: Cursor,

@@ -1,4 +1,7 @@
 // Lists of tokens: searched, marked and closed up, laid over lent cells, and moved within them; and places marked in a map.
+
+#![tactic(auto)]
+
 pub mod laying;
 pub mod map;
 pub mod marking;

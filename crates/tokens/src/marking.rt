@@ -8,7 +8,7 @@ ghost use Rattle.tokens.specs.Marks.{unmarked, found};
 use super::searching;
 
 // Of some tokens: the place of the first that a list doesn't have, or how many they are; how many it has; and the places of those.
-#[derive(Drop)]
+#[derive(Clone, Copy)]
 pub struct Found {
     pub dead: usize,
     pub living: usize,

@@ -1,7 +1,7 @@
 -- The tokens of records, taken in turn by their places; and no place twice, no token twice.
 use mathlib.Core.Path.{◌≡◌, sym, ap, ◌∙◌}
 use Prim.Native.Nat.{◌≤◌, ◌<◌}
-use Rattle.rules.specs.Lists.{ℕ, ◌+◌, ◌-◌, true, List, [], ◌++◌, replicate, range, every, is_in, all_different, joined}
+use Rattle.rules.specs.Lists.{ℕ, ◌+◌, ◌-◌, true, List, [], ◌∷◌, ◌++◌, replicate, range, every, is_in, all_different, place_of, joined}
 use Rattle.rules.specs.Sound.{good_list}
 use Rattle.laws.proofs.Groups.{joined_both}
 use Rattle.laws.proofs.Loops.{range_all, range_next, range_none}
@@ -22,7 +22,7 @@ module _ (ts : List ℕ) (f : ℕ → List ℕ) (a n : ℕ) where
   group_next i l e =
       let rest : List ℕ = joined f (range (a + (i + 1)) (n - (i + 1))) in
       ap (λ (ks : List ℕ). places_of ts (joined f ks)) (range_next a n i l)
-      ∙ joined_both _ (f (a + i)) rest
+      ∙ joined_both (λ (t : ℕ). place_of t ts ∷ []) (f (a + i)) rest
       ∙ ap (λ (xs : List ℕ). places_of ts xs ++ places_of ts rest) (sym e)
 
   pub group_end : (i : ℕ) → n ≤ i → places_of ts (joined f (range (a + i) (n - i))) ≡ []
