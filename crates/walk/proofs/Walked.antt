@@ -3,7 +3,6 @@ use mathlib.Core.Path.{◌≡◌, refl, sym, ap, ◌∙◌}
 use Prim.Native.Nat.{◌≤◌}
 use native.Mathlib.Omega.{arith}
 use lib.ListN.{length-append}
-use lib.Seq.{length-take-le}
 use Rattle.rules.specs.Lists.{ℕ, ◌+◌, ◌*◌, ◌/◌, ◌%◌, true, List, [], ◌++◌, length, take}
 use Rattle.rules.specs.Hall.{main_hall}
 use Rattle.rules.specs.Answers.{first, answer, Gives}
@@ -20,11 +19,7 @@ use Rattle.desk.specs.Known.{Known}
 use Rattle.filing.proofs.Read.{list_good_lem, taken_good, taken_is}
 use Rattle.listing.specs.Parts.{part_ran}
 use Rattle.listing.proofs.Joined.{book_joined, still_known}
-use Rattle.io.specs.Counts.{IsPrefixLen}
 use Rattle.walk.specs.Reached.{Reached}
-
-pub counts : (n : ℕ) (xs : List ℕ) → n ≤ length xs → IsPrefixLen n xs
-counts n xs l = (l, sym (length-take-le n xs l))
 
 -- n bytes were read, and the list in them was taken
 pub list_taken : (bs out : List ℕ) (n number : ℕ) (new : List ℕ) → n ≡ length bs → number ≡ 0 → Gives (read_list bs out) number new

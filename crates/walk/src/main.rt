@@ -1,5 +1,7 @@
 // The walk: a list in `tokens.rec` and a tape on standard input, walked to the listing on standard output.
 // What a list, a part of the tape and a book come to is the library's to say; here they are only read and shown.
+#![tactic(auto)]
+
 ghost use Rattle.std.specs.Prelude.{◌≡◌, ◌+◌, ◌*◌, ◌≤◌, length, take};
 ghost use Rattle.rules.specs.Lists.{true};
 ghost use Rattle.rules.specs.Hall.{main_hall};
@@ -12,6 +14,9 @@ ghost use Rattle.walk.specs.Reached.{Reached, Lines, Ended};
 use book::forms::Form;
 use book::writing;
 use listing::accounts;
+use std::fs;
+use std::io::{Error, Read};
+use std::rt::Files;
 
 // One more token than a list may have: there is no list.
 const NO_LIST: usize = 4097;
@@ -23,77 +28,93 @@ const PART: usize = 8192;
 const FAR: u64 = 9223372036854774783;
 
 // How many bytes went well, and whether something failed behind them.
-#[derive(Drop)]
+#[derive(Clone, Copy)]
 struct Done {
     bytes: usize,
     failed: bool,
 }
 
-fn show(text: &[u8]) -> bool {
-    let shown = io::write_all(1, text);
-    if !shown {
-        os::fail(b"listing");
+// The same of what was read from a file, with why it failed.
+#[derive(Drop)]
+struct Filled {
+    bytes: usize,
+    fault: Option<Error>,
+}
+
+// One line on standard error: what failed, and why. Where that can't be written either, there is nobody to tell.
+fn tell(rt: &impl Eprint, what: &str, fault: Error) {
+    let _ = eprintln!(rt; "{what}: {fault}");
+}
+
+fn show(rt: &(impl Print + Eprint), text: &[u8]) -> bool {
+    match rt.write_all(text) {
+        Ok(()) => true,
+        Err(fault) => {
+            tell(rt, "listing", fault);
+            false
+        }
     }
-    shown
 }
 
 // ---- all that is ever shown: each of these is told, besides the text, what it has to be the text of
 
-fn show_refusal(text: &[u8])
+fn show_refusal(rt: &(impl Print + Eprint), text: &[u8])
     requires { text.now ≡ refused_line }
 {
-    show(text);
+    show(rt, text);
 }
 
-fn show_lines(tokens: &[u32], place: u64, part: &[u8], text: &[u8]) -> bool
+fn show_lines(
+    rt: &(impl Print + Eprint),
+    tokens: &[u32],
+    place: u64,
+    part: &[u8],
+    text: &[u8],
+) -> bool
     requires { Lines tokens.now place part.now text.now }
 {
-    show(text)
+    show(rt, text)
 }
 
-fn show_accounts(tokens: &[u32], book: &[u32], text: &[u8])
+fn show_accounts(rt: &(impl Print + Eprint), tokens: &[u32], book: &[u32], text: &[u8])
     requires { Ended tokens.now book.now × (text.now ≡ accounts main_hall book.now) }
 {
-    show(text);
+    show(rt, text);
 }
 
 // ---- what is read
 
-// Reads until the lent bytes are full or the file ends. A read that fails is no end: `io::read_full` would answer alike at both.
-fn fill(fd: i32, out: &mut [u8]) -> Done
+// Reads until the lent bytes are full or the file ends. A read that fails is no end, however it failed: what stands behind it
+// isn't asked for.
+fn fill(file: &mut impl Read, out: &mut [u8]) -> Filled
     ensures { IsPrefixLen result.bytes out.new }
 {
     let mut n = 0;
+    let mut fault = None;
     while n < out.len() {
-        let got = libc::read(fd, &mut out[n..]);
-        let more = io::count(got, &out[n..]);
-        if more == 0 {
-            return Done {
-                bytes: n,
-                failed: got < 0,
-            };
+        match file.read(&mut out[n..]) {
+            Ok(0) => break,
+            Ok(more) => n += more,
+            Err(error) => {
+                fault = Some(error);
+                break;
+            }
         }
-        n += more;
     }
-    Done {
-        bytes: n,
-        failed: false,
-    }
+    Filled { bytes: n, fault }
 }
 
 // How many tokens the file has. A list that can't be read, or not to its end, is none.
-fn load_list(list: &mut [u32]) -> usize
+fn load_list(rt: &impl Files, list: &mut [u32]) -> usize
     requires { length list.old ≡ 4096 }
     ensures { result ≤ 4096 → good_list (take result list.new) ≡ true }
 {
     let mut bytes = io::large_buffer();
-    let fd = os::open_read(b"tokens.rec");
-    if fd < 0 {
+    let Ok(mut file) = fs::open(rt, "tokens.rec") else {
         return NO_LIST;
-    }
-    let done = fill(fd, &mut bytes);
-    libc::close(fd);
-    if done.failed {
+    };
+    let done = fill(&mut file, &mut bytes);
+    if done.fault.is_some() {
         return NO_LIST;
     }
     let n = done.bytes;
@@ -104,15 +125,18 @@ fn load_list(list: &mut [u32]) -> usize
 }
 
 // A part of the tape. Where a read fails within a record, that record is left out: it isn't the tape that is cut.
-fn read_part(part: &mut [u8]) -> Done
+fn read_part(rt: &impl Eprint, tape: &mut impl Read, part: &mut [u8]) -> Done
     ensures { IsPrefixLen result.bytes part.new }
 {
-    let done = fill(0, part);
-    if !done.failed {
-        return done;
-    }
-    os::fail(b"tape");
+    let done = fill(tape, part);
     let n = done.bytes;
+    let Some(fault) = done.fault else {
+        return Done {
+            bytes: n,
+            failed: false,
+        };
+    };
+    tell(rt, "tape", fault);
     Done {
         bytes: n - n % 8,
         failed: true,
@@ -122,12 +146,18 @@ fn read_part(part: &mut [u8]) -> Done
 // ---- the walk
 
 // Reads a part of the tape, does its steps and shows their lines.
-fn walk_some(tokens: &[u32], book: &mut [u32], place: u64) -> Done
+fn walk_some(
+    rt: &(impl Print + Eprint),
+    tape: &mut impl Read,
+    tokens: &[u32],
+    book: &mut [u32],
+    place: u64,
+) -> Done
     requires { Reached tokens.now book.old (8 * place) × (place ≤ 9223372036854774783) }
     ensures { Reached tokens.now book.new (8 * place + result.bytes) × (result.bytes ≤ 8192) }
 {
     let mut part = [0u8; PART];
-    let read = read_part(&mut part);
+    let read = read_part(rt, tape, &mut part);
     let n = read.bytes;
     let mut lines = io::large_buffer();
     let end = listing::walk_part(
@@ -139,7 +169,7 @@ fn walk_some(tokens: &[u32], book: &mut [u32], place: u64) -> Done
         &part[..n],
         &mut lines,
     );
-    let shown = show_lines(tokens, place, &part[..n], &lines[..end]);
+    let shown = show_lines(rt, tokens, place, &part[..n], &lines[..end]);
     Done {
         bytes: n,
         failed: read.failed | !shown,
@@ -148,13 +178,18 @@ fn walk_some(tokens: &[u32], book: &mut [u32], place: u64) -> Done
 
 // Part by part, up to one that isn't full: whether the tape came to its end, and all of it was shown. The book is sound from
 // the start and stays so: nothing asks again.
-fn walk_tape(tokens: &[u32], book: &mut [u32]) -> bool
+fn walk_tape(
+    rt: &(impl Print + Eprint),
+    tape: &mut impl Read,
+    tokens: &[u32],
+    book: &mut [u32],
+) -> bool
     requires { Reached tokens.now book.old 0 }
     ensures { Ended tokens.now book.new }
 {
     let mut place = 0;
     while place < FAR {
-        let some = walk_some(tokens, book, place);
+        let some = walk_some(rt, tape, tokens, book, place);
         if some.failed {
             return false;
         }
@@ -166,31 +201,31 @@ fn walk_tape(tokens: &[u32], book: &mut [u32]) -> bool
     false
 }
 
-fn end_listing(tokens: &[u32], book: &[u32])
+fn end_listing(rt: &(impl Print + Eprint), tokens: &[u32], book: &[u32])
     requires { Ended tokens.now book.now }
 {
     let mut lines = io::buffer();
     let end = accounts::put_accounts(&mut lines, rules::MAIN, book);
-    show_accounts(tokens, book, &lines[..end]);
+    show_accounts(rt, tokens, book, &lines[..end]);
 }
 
 // The accounts are those of a whole tape: where something failed, the listing ends without them.
-fn walk(tokens: &[u32], book: &mut [u32])
+fn walk(rt: &(impl Print + Eprint), tape: &mut impl Read, tokens: &[u32], book: &mut [u32])
     requires { Reached tokens.now book.old 0 }
 {
-    if walk_tape(tokens, book) {
-        end_listing(tokens, book);
+    if walk_tape(rt, tape, tokens, book) {
+        end_listing(rt, tokens, book);
     }
 }
 
-fn main() {
+fn main(rt: HostRuntime) {
     let mut list = [0u32; 4096];
-    let n = load_list(&mut list);
+    let n = load_list(&rt, &mut list);
     if 4096 < n {
-        show_refusal(b"refused 1\n");
+        show_refusal(&rt, b"refused 1\n");
         return;
     }
     let mut book = [0u32; 6372];
     writing::make_empty(&mut book);
-    walk(&list[..n], &mut book);
+    walk(&rt, &mut rt.stdin(), &list[..n], &mut book);
 }

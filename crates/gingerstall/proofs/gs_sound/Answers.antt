@@ -1,0 +1,5 @@
+use Rattle.gingerstall.proofs.Told.{of_test}
+use Rattle.gingerstall.proofs.gs_sound.Goals as goal
+
+pub returns : goal.returns
+returns c = of_test _ _ _ c.unsound.ensures c.is_sound.ensures

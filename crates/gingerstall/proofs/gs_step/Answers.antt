@@ -1,0 +1,10 @@
+use Rattle.rules.specs.Hall.{main_hall}
+use Rattle.rules.specs.Form.{plain}
+use Rattle.rules.specs.Verdicts.{step}
+use Rattle.gingerstall.proofs.Told.{of_step}
+use Rattle.gingerstall.proofs.gs_step.Goals as goal
+
+pub returns : goal.returns
+returns c =
+    let s = c.args in
+    of_step (step plain main_hall s.tokens.now s.book.now) _ _ _ _ _ c.entry-e.ensures c.step.ensures c.packed.ensures
