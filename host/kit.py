@@ -1,5 +1,5 @@
 """What host/test, host/bench and host/stack share: the proved library, and C by the kit's compiler and linker."""
-import hashlib, pathlib, shutil, subprocess, sys
+import hashlib, pathlib, subprocess, sys
 
 ROOT = pathlib.Path(__file__).resolve().parent.parent
 sys.path.insert(0, str(ROOT / "tests"))
@@ -15,9 +15,11 @@ STRICT = ["-Wall", "-Wextra", "-Werror", "-pedantic"]
 
 
 def found():
-    """The kit's folder, found by its rt."""
-    rt = shutil.which("rt")
-    return pathlib.Path(rt).resolve().parent.parent if rt else sys.exit("host: rt isn't on the path")
+    """The kit's folder, as docs/EMBEDDING.md finds it."""
+    try:
+        return pathlib.Path(subprocess.run(["rt", "doc"], check=True, stdout=subprocess.PIPE, text=True).stdout.strip()).parent
+    except (OSError, subprocess.CalledProcessError) as fault:
+        sys.exit(f"host: rt doesn't say where its kit is: {fault}")
 
 
 KIT = found()
