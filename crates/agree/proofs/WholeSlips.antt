@@ -30,7 +30,6 @@ use Rattle.laws.proofs.Changes.{at, lookup, at_long}
 use Rattle.laws.proofs.Empty.{empty_other}
 use Rattle.laws.proofs.Opened.{open_same}
 use Rattle.laws.proofs.EachSlip.{EachSlip, each_at, each_map, each_front}
-use Rattle.keeps.proofs.Fits.{stands}
 use Rattle.keeps.proofs.Isolation.{of_customer}
 use Rattle.keeps.proofs.Carnets.{Ends, Carnets, carnets, Unsold, plain_unsold, step_ends, empty_ends}
 use Rattle.agree.proofs.Sold.{new_line}

@@ -16,7 +16,6 @@ use Rattle.rules.specs.Tape.{clears}
 use Rattle.rules.specs.Form.{Form, plain}
 use Rattle.rules.specs.Steps.{fresh, joining, dealing, updating, stocking, selling, authenticating, settling, living, clearing, topping_up, changes, the_carnet, the_view, the_line}
 use Rattle.rules.specs.Verdicts.{verdict, step, steps}
-use Rattle.rules.proofs.Tests.{same}
 use Rattle.rules.proofs.Along.{along}
 use Rattle.rules.proofs.ByKind.{IsKind, by_kind}
 use Rattle.rules.proofs.Granted.{granted_good, granted_kind}

@@ -8,7 +8,7 @@ use Rattle.rules.specs.declared.Hall.{Hall}
 use Rattle.rules.specs.declared.Entry.{Entry}
 use Rattle.rules.specs.Lists.{ℕ, ◌+◌, Bool, true, false, cond, ◌&&◌, eqb, List, [], take, drop, every, occ, is_in, all_different, without, among, sum_of}
 use Rattle.rules.specs.Hall.{View, number, customer_views}
-use Rattle.rules.specs.Records.{amount, count, held, record_at}
+use Rattle.rules.specs.Records.{count, held, record_at}
 use Rattle.rules.specs.Tape.{clears}
 use Rattle.rules.specs.Form.{Form, plain}
 use Rattle.rules.specs.Steps.{dealt, fresh, asked, joining, dealing, updating, stocking, selling, authenticating, settling, clearing, topping_up, changes, effect, the_view, living, waiting}

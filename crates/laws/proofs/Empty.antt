@@ -8,7 +8,7 @@ use lib.Seq.{take_all}
 use borrow.Author.Tests.{le-ltb, le-leb}
 use Rattle.rules.specs.declared.Hall.{Hall}
 use Rattle.rules.specs.Lists.{ℕ, zero, suc, ◌+◌, ◌*◌, ◌-◌, Bool, true, false, cond, ltb, List, [], length, take, every, occ, all_different, same_list}
-use Rattle.rules.specs.Hall.{Carnet, View, BenchView, Till, Line, number, records, spendable, customer_views, views, lines}
+use Rattle.rules.specs.Hall.{Carnet, View, BenchView, Till, Line, number, records, spendable, customer_views, views}
 use Rattle.rules.specs.Records.{words, in_use, amount, count, sales, handshake, held, filled, made, block_at, record_at}
 use Rattle.rules.specs.Sound.{good_list, shaped, desk_good, bare, line_good, place_good, record_good, sound, empty_book}
 use Rattle.rules.specs.Slips.{slip_tokens, open_slip, open_slips, opened_line, open_book, slip_sum, slips_good, slip_line_good, is_run, slip_sound}

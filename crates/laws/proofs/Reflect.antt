@@ -9,7 +9,7 @@ use borrow.Author.Tests.{eq-eqb, eqb-true, le-leb, leb-true}
 use Rattle.rules.specs.Lists.{ℕ, zero, suc, ◌+◌, ◌*◌, true, leb, eqb, min, List, [], length, take, drop, get_or, range, every, occ, sum_of, joined}
 use Rattle.rules.specs.declared.Hall.{Hall}
 use Rattle.rules.specs.Hall.{most_budget, Place, Carnet, View, BenchView, Till, Line, number, records, spendable, customer_views, views}
-use Rattle.rules.specs.Records.{words, in_use, amount, count, held, block_at, record_at, cut, rows}
+use Rattle.rules.specs.Records.{words, in_use, amount, held, block_at, record_at, cut, rows}
 use Rattle.rules.specs.Sound.{good_list, fits, record_good, parties_good, once_in, total, money_good, sound_by, sound}
 use Rattle.rules.proofs.Tests.{below, parts, true_and}
 use Rattle.laws.proofs.Groups.{every_range, range_every}

@@ -8,7 +8,7 @@ use lib.Seq.{take_at}
 use Rattle.rules.specs.Lists.{ℕ, suc, ◌+◌, ◌-◌, min, true, List, [], ◌∷◌, ◌++◌, length, take, get_or, replicate, range, occ, is_in, all_different}
 use Rattle.rules.specs.Hall.{Hall, most_held}
 use Rattle.rules.specs.Answers.{answer}
-use Rattle.rules.specs.Records.{amount, count, sales, held, filled, record_at}
+use Rattle.rules.specs.Records.{count, sales, held, filled, record_at}
 use Rattle.rules.specs.Slips.{open_slip, open_slips, slip_tokens, slip_pairs, slip_of, slip}
 use Rattle.rules.specs.Tape.{Entry, entry_rules}
 use Rattle.rules.specs.Form.{Form, plain}

@@ -6,7 +6,7 @@ use native.Mathlib.Numerals.{add-one}
 use native.Mathlib.Omega.{arith}
 use lib.ListN.{set}
 use lib.Seq.{take-suc, take_all, take-nil, drop-nil, length-take-le}
-use Rattle.rules.specs.Lists.{ℕ, zero, suc, ◌+◌, ◌-◌, min, List, [], ◌∷◌, ◌++◌, length, take, drop, get_or}
+use Rattle.rules.specs.Lists.{ℕ, zero, suc, ◌+◌, min, List, [], ◌∷◌, ◌++◌, length, take, drop, get_or}
 use Rattle.rules.proofs.Tests.{below}
 use Rattle.tokens.specs.Laid.{laid}
 

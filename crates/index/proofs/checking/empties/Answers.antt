@@ -10,8 +10,9 @@ pub loop-i-preserved : goal.loop-i-preserved
 loop-i-preserved c =
     let h = c.loop-i-test.true in
     elim c.if-index-i-eq0.branch [
-      then-index-i-eq0 w ↦ rw w.n-is (count_hit c.loop-i.invariant h w.if-index-i-eq0.true)
-    | else-index-i-eq0 w ↦ rw w.n-is (count_miss c.loop-i.invariant h w.if-index-i-eq0.false) ]
+      | then-index-i-eq0 w ↦ rw w.n-is (count_hit c.loop-i.invariant h w.if-index-i-eq0.true)
+      | else-index-i-eq0 w ↦ rw w.n-is (count_miss c.loop-i.invariant h w.if-index-i-eq0.false)
+    ]
 
 pub returns : goal.returns
 returns c = count_end c.loop-i.invariant c.loop-i-test.false

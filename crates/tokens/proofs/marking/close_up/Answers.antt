@@ -11,8 +11,9 @@ pub loop-i-preserved : goal.loop-i-preserved
 loop-i-preserved c =
     let fits = c.requires in
     elim c.if-left-eq0.branch [
-      then-left-eq0 w ↦ closing_kept _ _ _ fits _ _ _ _ c.loop-i.invariant (omega arith) w.if-left-eq0.true _ _ w.cells-is w.kept-is
-    | else-left-eq0 w ↦ closing_gone _ _ _ fits _ _ _ _ c.loop-i.invariant (omega arith) w.if-left-eq0.false _ _ w.cells-is w.kept-is ]
+      | then-left-eq0 w ↦ closing_kept _ _ _ fits _ _ _ _ c.loop-i.invariant (omega arith) w.if-left-eq0.true _ _ w.cells-is w.kept-is
+      | else-left-eq0 w ↦ closing_gone _ _ _ fits _ _ _ _ c.loop-i.invariant (omega arith) w.if-left-eq0.false _ _ w.cells-is w.kept-is
+    ]
 
 pub returns : goal.returns
 returns c = closing_all _ _ _ c.requires _ _ _ _ c.loop-i.invariant c.loop-i-test.false

@@ -16,12 +16,14 @@ loop-k-preserved c =
     let place = c.first_hit-place.ensures in (
       refl,
       elim c.if-place-list.branch [
-        then-place-list w ↦ counting_living inv.1 c.loop-k-test.true place _ _ _ w.if-place-list.true (search rules) w.dead-is w.gone-is w.all-is
-      | else-place-list w ↦
-          let first : w.if-gone-eq0.dead ≡ cond (eqb c.loop-k.gone 0) c.loop-k.k c.loop-k.dead = elim w.if-gone-eq0.branch [
-            then-gone-eq0 v ↦ where_equal _ _ v.if-gone-eq0.true v.dead-is
-          | else-gone-eq0 v ↦ where_unequal _ _ v.if-gone-eq0.false v.dead-is ] in
-          counting_dead inv.1 c.loop-k-test.true place _ _ _ w.if-place-list.false (w.dead-is ∙ first) w.gone-is w.all-is ],
+        | then-place-list w ↦ counting_living inv.1 c.loop-k-test.true place _ _ _ w.if-place-list.true (search rules) w.dead-is w.gone-is w.all-is
+        | else-place-list w ↦
+            let first : w.if-gone-eq0.dead ≡ cond (eqb c.loop-k.gone 0) c.loop-k.k c.loop-k.dead = elim w.if-gone-eq0.branch [
+              | then-gone-eq0 v ↦ where_equal _ _ v.if-gone-eq0.true v.dead-is
+              | else-gone-eq0 v ↦ where_unequal _ _ v.if-gone-eq0.false v.dead-is
+            ] in
+            counting_dead inv.1 c.loop-k-test.true place _ _ _ w.if-place-list.false (w.dead-is ∙ first) w.gone-is w.all-is
+      ],
     )
 
 pub returns : goal.returns

@@ -18,8 +18,9 @@ loop-i-preserved c =
     let s = c.args.part.now in
     let h : c.loop-i.i < length s = omega arith in
     elim c.if-part-i-ne0.branch [
-      then-part-i-ne0 w ↦ (omega arith, w.clear-is ∙ sym (clear_no s c.loop-i.i h w.if-part-i-ne0.true))
-    | else-part-i-ne0 w ↦ (omega arith, w.clear-is ∙ c.loop-i.invariant.1 ∙ sym (clear_yes s c.loop-i.i h w.if-part-i-ne0.false)) ]
+      | then-part-i-ne0 w ↦ (omega arith, w.clear-is ∙ sym (clear_no s c.loop-i.i h w.if-part-i-ne0.true))
+      | else-part-i-ne0 w ↦ (omega arith, w.clear-is ∙ c.loop-i.invariant.1 ∙ sym (clear_yes s c.loop-i.i h w.if-part-i-ne0.false))
+    ]
 
 pub returns : goal.returns
 returns c = c.loop-i.invariant.1 ∙ ap all_zero (take_all _ _ c.loop-i-test.false)

@@ -18,8 +18,9 @@ loop-i-preserved c =
     let s = c.args.list.now in
     let h : c.loop-i.i < length s = omega arith in
     elim c.if-list-i.branch [
-      then-list-i w ↦ (omega arith, w.found-is ∙ sym (in_hit s c.loop-i.i h _ w.if-list-i.true))
-    | else-list-i w ↦ (omega arith, w.found-is ∙ c.loop-i.invariant.1 ∙ sym (in_miss s c.loop-i.i h _ w.if-list-i.false)) ]
+      | then-list-i w ↦ (omega arith, w.found-is ∙ sym (in_hit s c.loop-i.i h _ w.if-list-i.true))
+      | else-list-i w ↦ (omega arith, w.found-is ∙ c.loop-i.invariant.1 ∙ sym (in_miss s c.loop-i.i h _ w.if-list-i.false))
+    ]
 
 pub returns : goal.returns
 returns c = c.loop-i.invariant.1 ∙ ap (is_in c.args.token) (take_all _ _ c.loop-i-test.false)
