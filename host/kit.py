@@ -1,18 +1,29 @@
 """What host/test, host/bench and host/stack share: the proved library, and C by the kit's compiler and linker."""
-import hashlib, os, pathlib, subprocess, sys
+import hashlib, pathlib, subprocess, sys
 
 ROOT = pathlib.Path(__file__).resolve().parent.parent
 sys.path.insert(0, str(ROOT / "tests"))
 import shared
 
 HOST = ROOT / "host"
-ARCHIVE = ROOT / "target/staticlib/libgingerstall.a"
+CRATE = ROOT / "crates/gingerstall"
+ARCHIVE = CRATE / "out/libgingerstall.a"
 MADE_OF = ARCHIVE.with_suffix(".made-of")
-ON = shared.walk.kit() / "on" / os.uname().machine
-TOOLCHAIN = ON / "toolchain"
 TARGET = "x86_64-unknown-linux-gnu"
-BUILD = ["rt", "staticlib", "gingerstall"]
+BUILD = "(cd crates/gingerstall && rt lib)"  # as docs/EMBEDDING.md has it
 STRICT = ["-Wall", "-Wextra", "-Werror", "-pedantic"]
+
+
+def found():
+    """The kit's folder, as docs/EMBEDDING.md finds it."""
+    try:
+        return pathlib.Path(subprocess.run(["rt", "doc"], check=True, stdout=subprocess.PIPE, text=True).stdout.strip()).parent
+    except (OSError, subprocess.CalledProcessError) as fault:
+        sys.exit(f"host: rt doesn't say where its kit is: {fault}")
+
+
+KIT = found()
+TOOLCHAIN = KIT / "toolchain"
 
 
 class Failed(Exception):
@@ -25,9 +36,10 @@ class Fault(Exception):
 
 def content():
     """What the library is made of, and the library itself, as one line."""
-    files = [path for path in ROOT.glob("crates/*/*/**/*") if path.suffix in (".rt", ".antt")]
+    parts = (crate / part for crate in ROOT.glob("crates/*") for part in ("src", "specs", "proofs"))
+    files = [path for part in parts for path in part.rglob("*") if path.is_file()]
     whole = hashlib.sha256()
-    for path in [shared.walk.kit() / "KIT-ID", ROOT / "crates.txt", *sorted(files), ARCHIVE]:
+    for path in [KIT / "KIT-ID", ROOT / "crates.txt", *sorted(files), ARCHIVE]:
         whole.update(f"{path}\n".encode() + hashlib.sha256(path.read_bytes()).digest())
     return whole.hexdigest()
 
@@ -36,7 +48,7 @@ def prove():
     """Builds the library, unless it is there and made of just these files."""
     if ARCHIVE.exists() and MADE_OF.exists() and MADE_OF.read_text() == content():
         return
-    rt = subprocess.run(BUILD, cwd=ROOT, stdout=subprocess.PIPE, text=True)
+    rt = subprocess.run(["rt", "lib"], cwd=CRATE, stdin=subprocess.DEVNULL, stdout=subprocess.PIPE, text=True)
     if rt.returncode != 0:
         sys.exit(f"{rt.stdout}host: the library isn't built")
     MADE_OF.write_text(content())
@@ -66,7 +78,7 @@ def compiled(room, source, *language):
 
 def linked(made, *objects):
     """The program of some object files and the library."""
-    done([ON / "bin/rattle-link", "--target", TARGET, "--toolchain", TOOLCHAIN, "-o", made, *objects, ARCHIVE])
+    done([KIT / "bin/rattle-link", "--target", TARGET, "--toolchain", TOOLCHAIN, "-o", made, *objects, ARCHIVE])
     return made
 
 
@@ -76,4 +88,4 @@ def program(room, *names):
 
 
 def command(program, *words):
-    return [*shared.walk.loaded(program), *map(str, words)]
+    return [str(program), *map(str, words)]

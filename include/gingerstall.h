@@ -1,5 +1,5 @@
-/* The clearing book of a print-finishing hall, as a library: target/staticlib/libgingerstall.a, written by
-   `rt staticlib gingerstall`. docs/RULES.md tells the rules, and what each number below stands for.
+/* The clearing book of a print-finishing hall, as a library: crates/gingerstall/out/libgingerstall.a, written by
+   `rt lib` in crates/gingerstall. docs/RULES.md tells the rules, and what each number below stands for.
 
    A book is 6,372 words of 32 bits; on file it is 25,488 bytes, each word's lowest byte first. An empty book is one of
    either form, plain or slip. A token list is 0 to 4,096 words, all different. A tape is records of 8 bytes. An index of a
