@@ -1,7 +1,7 @@
 -- What a step has found out before it moves tokens: each record stands in the book and is as a sound one, and each sum fits its
 -- word.
-use Rattle.std.specs.Prelude.{◌≤◌, ◌<◌, ◌≡◌}
-use Rattle.rules.specs.Lists.{ℕ, ◌+◌, ◌*◌, true, List, length, drop, all_zero}
+use Rattle.std.specs.Prelude.{◌≤◌, ◌<◌, ◌≡◌, ◌+◌, ◌*◌}
+use Rattle.rules.specs.Lists.{ℕ, true, List, length, drop, all_zero}
 use Rattle.rules.specs.Hall.{most_tokens, most_held}
 use Rattle.rules.specs.Records.{words, amount, count, cells, record_at}
 use Rattle.rules.specs.Steps.{dealt}

@@ -1,6 +1,6 @@
 -- A sale by the numbers of its two records: where there is room for it, and the book afterwards.
-use Rattle.std.specs.Prelude.{◌≡◌, ◌≤◌, ◌<◌}
-use Rattle.rules.specs.Lists.{ℕ, ◌+◌, ◌*◌, ◌-◌, min, true, List, ◌++◌, length, take, drop, replicate, all_zero}
+use Rattle.std.specs.Prelude.{◌≡◌, ◌≤◌, ◌<◌, ◌+◌, ◌*◌, ◌-◌, ◌++◌}
+use Rattle.rules.specs.Lists.{ℕ, min, true, List, length, take, drop, replicate, all_zero}
 use Rattle.rules.specs.Hall.{most_held, most_sales}
 use Rattle.rules.specs.Records.{words, count, sales, cells, held, filled, made, record_at, put}
 use Rattle.rules.specs.Form.{Form}

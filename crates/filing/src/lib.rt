@@ -2,9 +2,9 @@
 
 #![tactic(auto)]
 
-ghost use Rattle.std.specs.Prelude.{◌≡◌, ◌*◌, ◌/◌, ◌%◌, ◌≤◌, length};
+ghost use Rattle.std.specs.Prelude.{◌≡◌, ◌*◌, ◌/◌, ◌%◌, ◌≤◌, length, ◌&&◌};
 ghost use Rattle.rules.specs.Answers.{Gives};
-ghost use Rattle.rules.specs.Lists.{◌&&◌, eqb};
+ghost use Rattle.rules.specs.Lists.{eqb};
 ghost use Rattle.rules.specs.Hall.{main_hall, records};
 ghost use Rattle.rules.specs.Records.{words};
 ghost use Rattle.rules.specs.Bytes.{to_bytes, to_words, write_book, read_book};

@@ -1,5 +1,6 @@
 -- What C and Rust have in another form: a step's two numbers in one, and a tape record in five lent words.
-use Rattle.rules.specs.Lists.{◌≡◌, ℕ, ◌/◌, ◌%◌, cond, eqb, List, [], ◌∷◌, length}
+use Rattle.std.specs.Prelude.{◌≡◌, ◌/◌, ◌%◌, ◌∷◌}
+use Rattle.rules.specs.Lists.{ℕ, cond, eqb, List, [], length}
 use Rattle.rules.specs.declared.Hall.{Hall}
 use Rattle.rules.specs.declared.Entry.{Entry}
 use Rattle.rules.specs.Answers.{Answer}

@@ -1,6 +1,6 @@
 -- What the steps of a build ask and promise.
-use Rattle.std.specs.Prelude.{◌≡◌, ◌<◌, ◌≤◌}
-use Rattle.rules.specs.Lists.{ℕ, ◌+◌, Bool, true, false, List, length, get_or, all_different}
+use Rattle.std.specs.Prelude.{◌≡◌, ◌<◌, ◌≤◌, ◌+◌}
+use Rattle.rules.specs.Lists.{ℕ, Bool, true, false, List, length, get_or, all_different}
 use Rattle.rules.specs.Index.{entered}
 
 -- the first n tokens are in, no two the same

@@ -1,5 +1,6 @@
 -- The table of verdict numbers, from 4 on, one kind at a time: the tests that the kind can meet, over the words that they read.
-use Rattle.rules.specs.Lists.{ℕ, ◌+◌, Bool, not, ◌&&◌, ◌||◌, ltb, eqb, List, [], ◌∷◌}
+use Rattle.std.specs.Prelude.{◌+◌, ◌&&◌, ◌||◌, ◌∷◌}
+use Rattle.rules.specs.Lists.{ℕ, Bool, not, ltb, eqb, List, []}
 use Rattle.rules.specs.Hall.{most_held, most_sales, most_budget}
 use Rattle.rules.specs.Answers.{Rule, ◌⇐◌}
 

@@ -1,6 +1,6 @@
 -- A step, one kind at a time, where numbers 1 to 3 let the record pass: the kind's own chain of checks, and what it changes.
-use Rattle.std.specs.Prelude.{◌≡◌, ◌≤◌, ◌<◌}
-use Rattle.rules.specs.Lists.{ℕ, ◌*◌, true, List, [], ◌∷◌, ◌++◌, length, drop, get_or, all_zero}
+use Rattle.std.specs.Prelude.{◌≡◌, ◌≤◌, ◌<◌, ◌*◌, ◌∷◌, ◌++◌}
+use Rattle.rules.specs.Lists.{ℕ, true, List, [], length, drop, get_or, all_zero}
 use Rattle.rules.specs.declared.Hall.{Hall}
 use Rattle.rules.specs.declared.Entry.{Entry}
 use Rattle.rules.specs.Hall.{most_tokens, most_held, Carnet, View, BenchView, Till, Line, number, records}

@@ -1,5 +1,6 @@
 -- The parties in the listing's order, in one numbering: the customers, and behind them the benches.
-use Rattle.rules.specs.Lists.{ℕ, ◌-◌, cond, ltb, List}
+use Rattle.std.specs.Prelude.{◌-◌}
+use Rattle.rules.specs.Lists.{ℕ, cond, ltb, List}
 use Rattle.rules.specs.declared.Hall.{Hall}
 use Rattle.rules.specs.Listing.{customer_line, bench_line}
 

@@ -1,5 +1,6 @@
 -- A part of the tape, walked from a book on; its first step has a place in the whole tape.
-use Rattle.rules.specs.Lists.{ℕ, ◌/◌, List, ◌++◌, length}
+use Rattle.std.specs.Prelude.{◌/◌, ◌++◌}
+use Rattle.rules.specs.Lists.{ℕ, List, length}
 use Rattle.rules.specs.declared.Hall.{Hall}
 use Rattle.rules.specs.declared.Entry.{Entry}
 use Rattle.rules.specs.Tape.{entries}

@@ -1,7 +1,7 @@
 // The listing's lines as bytes, each written from a place of a lent buffer on. Every function answers the place behind what it wrote.
 // Inner, all of them: who calls has lent room for the longest line.
-ghost use Rattle.std.specs.Prelude.{◌≡◌, ◌+◌, ◌≤◌, length};
-ghost use Rattle.rules.specs.Lists.{[], ◌∷◌};
+ghost use Rattle.std.specs.Prelude.{◌≡◌, ◌+◌, ◌≤◌, length, ◌∷◌};
+ghost use Rattle.rules.specs.Lists.{[]};
 ghost use Rattle.rules.specs.Listing.{digits, decimal, spaced, step_line, cut_line};
 ghost use Rattle.listing.specs.Written.{written};
 

@@ -2,8 +2,8 @@
 
 #![tactic(auto)]
 
-ghost use Rattle.std.specs.Prelude.{◌≡◌, ◌+◌, ◌≤◌, ◌<◌};
-ghost use Rattle.rules.specs.Lists.{◌++◌, length, take, drop};
+ghost use Rattle.std.specs.Prelude.{◌≡◌, ◌+◌, ◌≤◌, ◌<◌, ◌++◌};
+ghost use Rattle.rules.specs.Lists.{length, take, drop};
 ghost use Rattle.rules.specs.Bytes.{bytes_of, word_of};
 
 // Any byte fits, and the bound keeps the sum in `word_at` below 2^32.

@@ -1,6 +1,7 @@
 -- There and back: the answer of a function that writes and then reads, or reads and then writes. In it stands, as what comes
 -- back, the very thing that went out.
-use Rattle.rules.specs.Lists.{◌≡◌, ℕ, cond, not, eqb, List, [], ◌∷◌, ◌++◌, length, take, drop}
+use Rattle.std.specs.Prelude.{◌≡◌, ◌∷◌, ◌++◌}
+use Rattle.rules.specs.Lists.{ℕ, cond, not, eqb, List, [], length, take, drop}
 use Rattle.rules.specs.declared.Hall.{Hall}
 use Rattle.rules.specs.declared.Entry.{Entry}
 use Rattle.rules.specs.Answers.{◌⇐◌, Answer, answer, Gives}

@@ -1,6 +1,7 @@
 -- What a call is: a function's arguments, its result and the lent cells afterwards, and of these what the prover says that a caller
 -- learns. A record here is one call, over the values that went in and came out.
-use Rattle.rules.specs.Lists.{◌≡◌, ℕ, ◌+◌, ◌/◌, ◌%◌, List, [], ◌∷◌, ◌++◌, length, take}
+use Rattle.std.specs.Prelude.{◌≡◌, ◌+◌, ◌/◌, ◌%◌, ◌∷◌, ◌++◌}
+use Rattle.rules.specs.Lists.{ℕ, List, [], length, take}
 use Rattle.rules.specs.Hall.{main_hall, most_tokens}
 use Rattle.rules.specs.declared.Entry.{Entry}
 use Rattle.rules.specs.declared.Reply.{Reply}

@@ -1,5 +1,6 @@
 -- A look-up in an index: from the token's start forward, round the end, to the token's own entry or to an empty cell.
-use Rattle.rules.specs.Lists.{ℕ, ◌+◌, ◌-◌, ◌%◌, Bool, cond, ◌||◌, eqb, List, ◌++◌, length, take, drop, get_or, first_of}
+use Rattle.std.specs.Prelude.{◌+◌, ◌-◌, ◌%◌, ◌||◌, ◌++◌}
+use Rattle.rules.specs.Lists.{ℕ, Bool, cond, eqb, List, length, take, drop, get_or, first_of}
 use Rattle.rules.specs.Index.{ring, start}
 
 -- the cells as a walk from s meets them

@@ -1,5 +1,6 @@
 -- The way of place i along entries, from its token's start: what a check can walk without a second index beside the first.
-use Rattle.rules.specs.Lists.{ℕ, suc, ◌-◌, Bool, false, not, ◌&&◌, ◌||◌, leb, ltb, eqb, List, [], ◌∷◌, get_or}
+use Rattle.std.specs.Prelude.{◌-◌, ◌&&◌, ◌||◌, ◌∷◌}
+use Rattle.rules.specs.Lists.{ℕ, suc, Bool, false, not, leb, ltb, eqb, List, [], get_or}
 use Rattle.rules.specs.Index.{start}
 use Rattle.ring.specs.Walk.{round}
 

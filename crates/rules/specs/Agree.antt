@@ -1,6 +1,6 @@
 -- When a plain book and a slip book agree (demand 3): accounts and carnets word for word, and each line opens to the plain one.
-use Rattle.std.specs.Prelude.{◌≤◌, ◌<◌}
-use Rattle.rules.specs.Lists.{◌≡◌, ℕ, List}
+use Rattle.std.specs.Prelude.{◌≤◌, ◌<◌, ◌≡◌}
+use Rattle.rules.specs.Lists.{ℕ, List}
 use Rattle.rules.specs.Hall.{Hall, Line, number, records}
 use Rattle.rules.specs.Records.{in_use, count, sales, held, record_at}
 use Rattle.rules.specs.Slips.{slip_tokens}

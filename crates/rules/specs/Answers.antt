@@ -1,5 +1,6 @@
 -- Answers: the first number of a table whose test holds, and the lent cells afterwards.
-use Rattle.rules.specs.Lists.{◌≡◌, ℕ, Bool, cond, eqb, List, [], ◌∷◌}
+use Rattle.std.specs.Prelude.{◌≡◌, ◌∷◌}
+use Rattle.rules.specs.Lists.{ℕ, Bool, cond, eqb, List, []}
 
 -- a line of a table: the number is given when its test is the first that holds
 pub data Rule : Type 0 where

@@ -1,5 +1,6 @@
 -- The yearly balance: what a tape brought into the hall, by its records and verdicts alone; what a book then has; the tokens credited.
-use Rattle.rules.specs.Lists.{ℕ, ◌+◌, Bool, true, cond, ◌&&◌, ◌||◌, eqb, List, [], ◌∷◌, ◌++◌}
+use Rattle.std.specs.Prelude.{◌+◌, ◌&&◌, ◌||◌, ◌∷◌, ◌++◌}
+use Rattle.rules.specs.Lists.{ℕ, Bool, true, cond, eqb, List, []}
 use Rattle.rules.specs.Hall.{Hall}
 use Rattle.rules.specs.Records.{record_at}
 use Rattle.rules.specs.Sound.{total}

@@ -1,5 +1,6 @@
 -- Words as bytes: four to a word, lowest first. And what asks for right lengths alone, and answers 1 without them.
-use Rattle.rules.specs.Lists.{ℕ, zero, suc, ◌+◌, ◌*◌, ◌/◌, ◌%◌, not, ◌&&◌, eqb, List, [], ◌∷◌, ◌++◌, length, drop, get_or}
+use Rattle.std.specs.Prelude.{◌+◌, ◌*◌, ◌/◌, ◌%◌, ◌&&◌, ◌∷◌, ◌++◌}
+use Rattle.rules.specs.Lists.{ℕ, zero, suc, not, eqb, List, [], length, drop, get_or}
 use Rattle.rules.specs.Hall.{Hall}
 use Rattle.rules.specs.Answers.{Rule, ◌⇐◌, Answer, answer}
 use Rattle.rules.specs.Sound.{fits, empty_book}

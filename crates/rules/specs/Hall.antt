@@ -1,5 +1,6 @@
 -- What the hall's book covers: the hall, its limits, and the number of each of its records.
-use Rattle.rules.specs.Lists.{ℕ, ◌+◌, ◌*◌, List, ◌++◌, range}
+use Rattle.std.specs.Prelude.{◌+◌, ◌*◌, ◌++◌}
+use Rattle.rules.specs.Lists.{ℕ, List, range}
 pub use Rattle.rules.specs.declared.Hall.{Hall}
 
 abbrev pub main_hall : Hall

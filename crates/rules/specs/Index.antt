@@ -1,5 +1,6 @@
 -- The index beside a token list: 8,192 numbers in a ring. An entry is a token's place plus 1; 0 is empty.
-use Rattle.rules.specs.Lists.{ℕ, zero, suc, ◌+◌, ◌*◌, ◌%◌, ◌^◌, bit_xor, Bool, not, ◌&&◌, eqb, List, [], ◌∷◌, ◌++◌, length, take, drop, get_or, set, replicate, same_list, place_of, joined}
+use Rattle.std.specs.Prelude.{◌+◌, ◌*◌, ◌%◌, ◌^◌, ◌&&◌, ◌∷◌, ◌++◌}
+use Rattle.rules.specs.Lists.{ℕ, zero, suc, bit_xor, Bool, not, eqb, List, [], length, take, drop, get_or, set, replicate, same_list, place_of, joined}
 use Rattle.rules.specs.Hall.{Hall}
 use Rattle.rules.specs.Answers.{◌⇐◌, Answer, answer}
 use Rattle.rules.specs.Sound.{good_list, fits}

@@ -1,5 +1,6 @@
 -- The listing: a line for each step, then one for each joined customer and each joined bench, by rising number.
-use Rattle.rules.specs.Lists.{ℕ, zero, suc, ◌+◌, ◌/◌, ◌%◌, cond, ltb, eqb, List, [], ◌∷◌, ◌++◌, range, sum_of, joined}
+use Rattle.std.specs.Prelude.{◌+◌, ◌/◌, ◌%◌, ◌∷◌, ◌++◌}
+use Rattle.rules.specs.Lists.{ℕ, zero, suc, cond, ltb, eqb, List, [], range, sum_of, joined}
 use Rattle.rules.specs.Hall.{Hall, Carnet, View, BenchView, Till, Line, number, records}
 use Rattle.rules.specs.Records.{in_use, amount, count, rows}
 use Rattle.rules.specs.Tape.{Entry}

@@ -1,5 +1,6 @@
 -- Records: 36 words each, one after the other, without a header.
-use Rattle.rules.specs.Lists.{ℕ, zero, suc, ◌+◌, ◌*◌, ◌-◌, List, [], ◌∷◌, ◌++◌, length, take, drop, get_or, set, replicate}
+use Rattle.std.specs.Prelude.{◌+◌, ◌*◌, ◌-◌, ◌∷◌, ◌++◌}
+use Rattle.rules.specs.Lists.{ℕ, zero, suc, List, [], length, take, drop, get_or, set, replicate}
 use Rattle.rules.specs.Hall.{most_held}
 
 abbrev pub words : ℕ

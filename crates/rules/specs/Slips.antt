@@ -1,5 +1,6 @@
 -- The slip book: in a line a whole sale is one pair, its first token and how many.
-use Rattle.rules.specs.Lists.{ℕ, zero, suc, ◌+◌, ◌*◌, Bool, true, not, ◌&&◌, leb, eqb, List, [], ◌∷◌, ◌++◌, length, take, drop, get_or, every, all_zero, place_of, same_list}
+use Rattle.std.specs.Prelude.{◌+◌, ◌*◌, ◌&&◌, ◌∷◌, ◌++◌}
+use Rattle.rules.specs.Lists.{ℕ, zero, suc, Bool, true, not, leb, eqb, List, [], length, take, drop, get_or, every, all_zero, place_of, same_list}
 use Rattle.rules.specs.Hall.{Hall, most_held, most_sales, Line, number, records, carnets, lines}
 use Rattle.rules.specs.Answers.{◌⇐◌, Answer, answer}
 use Rattle.rules.specs.Records.{words, in_use, amount, count, sales, cells, held, filled, rows}

@@ -1,5 +1,6 @@
 -- The token list; when a book is sound over it; the empty book. A test looks a record up by its number, `at k`.
-use Rattle.rules.specs.Lists.{ℕ, ◌+◌, ◌*◌, ◌-◌, min, Bool, cond, ◌&&◌, ◌||◌, leb, ltb, eqb, List, [], ◌++◌, length, take, drop, replicate, range, every, all_zero, is_in, all_different, sum_of, joined}
+use Rattle.std.specs.Prelude.{◌+◌, ◌*◌, ◌-◌, ◌&&◌, ◌||◌, ◌++◌}
+use Rattle.rules.specs.Lists.{ℕ, min, Bool, cond, leb, ltb, eqb, List, [], length, take, drop, replicate, range, every, all_zero, is_in, all_different, sum_of, joined}
 use Rattle.rules.specs.Hall.{Hall, most_tokens, most_held, most_sales, most_budget, Place, Carnet, View, BenchView, Till, Line, number, records, spendable, customer_views, views}
 use Rattle.rules.specs.Records.{words, in_use, amount, count, sales, handshake, cells, held, made, rows}
 

@@ -1,5 +1,6 @@
 -- Steps when granted: the records that a step writes, in order, each made from the book before the step.
-use Rattle.rules.specs.Lists.{ℕ, ◌+◌, ◌-◌, min, cond, List, [], ◌∷◌, ◌++◌, length, take, drop, get_or, without, among}
+use Rattle.std.specs.Prelude.{◌+◌, ◌-◌, ◌∷◌, ◌++◌}
+use Rattle.rules.specs.Lists.{ℕ, min, cond, List, [], length, take, drop, get_or, without, among}
 use Rattle.rules.specs.Hall.{Hall, Place, Desk, Carnet, View, BenchView, Till, Line, number}
 use Rattle.rules.specs.Records.{amount, count, sales, held, filled, made, with_amount, with_handshake, record_at, put}
 use Rattle.rules.specs.Tape.{Entry, Update, Stock, is}

@@ -1,5 +1,6 @@
 -- The tape: records of 8 bytes, the kinds and what they use, what is refused of a record by itself, reader and writer.
-use Rattle.rules.specs.Lists.{ℕ, zero, suc, ◌+◌, Bool, cond, not, ◌&&◌, ◌||◌, leb, ltb, eqb, List, [], ◌∷◌, ◌++◌, length, drop, get_or, is_in}
+use Rattle.std.specs.Prelude.{◌+◌, ◌&&◌, ◌||◌, ◌∷◌, ◌++◌}
+use Rattle.rules.specs.Lists.{ℕ, zero, suc, Bool, cond, not, leb, ltb, eqb, List, [], length, drop, get_or, is_in}
 use Rattle.rules.specs.Hall.{Hall}
 use Rattle.rules.specs.Answers.{Rule, ◌⇐◌, first, Answer, answer}
 use Rattle.rules.specs.Bytes.{bytes_of, word_of}

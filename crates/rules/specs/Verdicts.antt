@@ -1,5 +1,6 @@
 -- Verdict numbers: the table, whose order decides; a step, and the second number that it answers; a run over a whole tape.
-use Rattle.rules.specs.Lists.{◌≡◌, ℕ, ◌+◌, ◌*◌, Bool, cond, not, ◌&&◌, ◌||◌, leb, ltb, eqb, List, [], ◌∷◌, ◌++◌, length, get_or, without, first_absent}
+use Rattle.std.specs.Prelude.{◌≡◌, ◌+◌, ◌*◌, ◌&&◌, ◌||◌, ◌∷◌, ◌++◌}
+use Rattle.rules.specs.Lists.{ℕ, Bool, cond, not, leb, ltb, eqb, List, [], length, get_or, without, first_absent}
 use Rattle.rules.specs.Hall.{Hall, most_held, most_sales, most_budget}
 use Rattle.rules.specs.Answers.{Rule, ◌⇐◌, first, Answer, answer}
 use Rattle.rules.specs.Records.{in_use, amount, count, sales, handshake, cells, held, record_at}

@@ -1,5 +1,6 @@
 -- The walk: a list on file and a tape, from an empty book to the listing.
-use Rattle.rules.specs.Lists.{ℕ, ◌/◌, ◌%◌, Bool, cond, not, ◌&&◌, leb, eqb, List, [], ◌∷◌, ◌++◌, length, drop}
+use Rattle.std.specs.Prelude.{◌/◌, ◌%◌, ◌&&◌, ◌∷◌, ◌++◌}
+use Rattle.rules.specs.Lists.{ℕ, Bool, cond, not, leb, eqb, List, [], length, drop}
 use Rattle.rules.specs.Hall.{Hall}
 use Rattle.rules.specs.Answers.{◌⇐◌, Answer, answer}
 use Rattle.rules.specs.Sound.{good_list, empty_book}

@@ -1,5 +1,6 @@
 -- When slips stand alone: no carnet holds a token of theirs, and no other slip begins at one.
-use Rattle.rules.specs.Lists.{ℕ, zero, suc, min, Bool, true, ◌&&◌, eqb, List, [], ◌∷◌, drop, get_or, occ, joined}
+use Rattle.std.specs.Prelude.{◌&&◌, ◌∷◌}
+use Rattle.rules.specs.Lists.{ℕ, zero, suc, min, Bool, true, eqb, List, [], drop, get_or, occ, joined}
 use Rattle.rules.specs.Hall.{most_sales}
 use Rattle.rules.specs.Records.{sales, cells, record_at}
 use Rattle.rules.specs.Slips.{open_slip}

@@ -1,6 +1,7 @@
 -- Soundness of a slip book in clauses that are tested on the book as it stands, without opening it.
 use Rattle.rules.specs.declared.Hall.{Hall}
-use Rattle.rules.specs.Lists.{ℕ, min, Bool, ◌&&◌, List, ◌++◌, replicate, range, every, is_in, all_different, joined}
+use Rattle.std.specs.Prelude.{◌&&◌, ◌++◌}
+use Rattle.rules.specs.Lists.{ℕ, min, Bool, List, replicate, range, every, is_in, all_different, joined}
 use Rattle.rules.specs.Hall.{most_sales, Line, number, carnets, lines, views}
 use Rattle.rules.specs.Records.{sales, cells, held, record_at}
 use Rattle.rules.specs.Sound.{record_good, once_in}

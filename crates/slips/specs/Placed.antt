@@ -1,5 +1,6 @@
 -- The place of a slip's first token where the slip is good, and else d, where no dealt token stands.
-use Rattle.rules.specs.Lists.{ℕ, ◌+◌, Bool, cond, ◌&&◌, leb, List, place_of}
+use Rattle.std.specs.Prelude.{◌+◌, ◌&&◌}
+use Rattle.rules.specs.Lists.{ℕ, Bool, cond, leb, List, place_of}
 use Rattle.rules.specs.Hall.{most_held}
 
 abbrev pub slip_good : List ℕ → ℕ → ℕ → ℕ → Bool

@@ -3,9 +3,9 @@
 
 #![tactic(auto)]
 
-ghost use Rattle.std.specs.Prelude.{◌≡◌, ◌*◌, ◌≤◌, length};
+ghost use Rattle.std.specs.Prelude.{◌≡◌, ◌*◌, ◌≤◌, length, ◌&&◌};
 ghost use Rattle.rules.specs.Answers.{Gives};
-ghost use Rattle.rules.specs.Lists.{true, ◌&&◌, replicate};
+ghost use Rattle.rules.specs.Lists.{true, replicate};
 ghost use Rattle.rules.specs.Hall.{most_tokens, main_hall, records, carnets, views};
 ghost use Rattle.rules.specs.Records.{words, amount, record_at};
 ghost use Rattle.rules.specs.Sound.{good_list, once_in};

@@ -1,7 +1,7 @@
 // What soundness asks of a slip book's record by itself: a line's pairs, and a carnet that is a run of the list. Where a map is lent, a
 // line's tokens have to be new to it too.
-ghost use Rattle.std.specs.Prelude.{◌≡◌, ◌+◌, ◌*◌, ◌≤◌, length};
-ghost use Rattle.rules.specs.Lists.{true, ◌&&◌, range, every};
+ghost use Rattle.std.specs.Prelude.{◌≡◌, ◌+◌, ◌*◌, ◌≤◌, length, ◌&&◌};
+ghost use Rattle.rules.specs.Lists.{true, range, every};
 ghost use Rattle.rules.specs.Hall.{most_sales};
 ghost use Rattle.rules.specs.Records.{words, record_at};
 ghost use Rattle.rules.specs.Sound.{good_list};

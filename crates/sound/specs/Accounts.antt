@@ -1,6 +1,7 @@
 -- The part of soundness that both books share word for word: who is in use with whom, and the money.
 use Rattle.rules.specs.declared.Hall.{Hall}
-use Rattle.rules.specs.Lists.{ℕ, Bool, ◌&&◌, List}
+use Rattle.std.specs.Prelude.{◌&&◌}
+use Rattle.rules.specs.Lists.{ℕ, Bool, List}
 use Rattle.rules.specs.Hall.{number}
 use Rattle.rules.specs.Records.{in_use}
 use Rattle.rules.specs.Sound.{parties_good, money_good}

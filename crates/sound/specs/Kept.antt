@@ -1,5 +1,6 @@
 -- What every record is asked first, in the plain and in the slip book: the beginning of `shaped`.
-use Rattle.rules.specs.Lists.{ℕ, Bool, ◌&&◌, ◌||◌, leb, eqb, List, all_zero}
+use Rattle.std.specs.Prelude.{◌&&◌, ◌||◌}
+use Rattle.rules.specs.Lists.{ℕ, Bool, leb, eqb, List, all_zero}
 use Rattle.rules.specs.Hall.{most_held}
 use Rattle.rules.specs.Records.{in_use, count}
 

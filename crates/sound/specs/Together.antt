@@ -1,5 +1,6 @@
 -- Records of a book taken together, by their numbers: what they hold, which of them are in use, what a word of theirs adds up to.
-use Rattle.rules.specs.Lists.{ℕ, ◌+◌, min, Bool, not, leb, eqb, List, get_or, range, every, is_in, sum_of, joined}
+use Rattle.std.specs.Prelude.{◌+◌}
+use Rattle.rules.specs.Lists.{ℕ, min, Bool, not, leb, eqb, List, get_or, range, every, is_in, sum_of, joined}
 use Rattle.rules.specs.Records.{in_use, held, record_at}
 
 -- the tokens that a group of records holds

@@ -2,8 +2,8 @@
 
 #![tactic(auto)]
 
-ghost use Rattle.std.specs.Prelude.{◌≡◌, ◌+◌, ◌*◌, ◌≤◌, length};
-ghost use Rattle.rules.specs.Lists.{true, ◌&&◌, leb, min, range, every};
+ghost use Rattle.std.specs.Prelude.{◌≡◌, ◌+◌, ◌*◌, ◌≤◌, length, ◌&&◌};
+ghost use Rattle.rules.specs.Lists.{true, leb, min, range, every};
 ghost use Rattle.rules.specs.Hall.{main_hall, Carnet, Till, Line, number, records, spendable, views};
 ghost use Rattle.rules.specs.Records.{words, in_use, record_at};
 ghost use Rattle.rules.specs.Sound.{good_list, record_good, parties_good, once_in, money_good, sound};

@@ -1,6 +1,6 @@
 // What soundness asks of a record by itself. Inner, all of them: the record is one of a book whose length was tested.
-ghost use Rattle.std.specs.Prelude.{◌≡◌, length};
-ghost use Rattle.rules.specs.Lists.{true, ◌&&◌, ◌||◌, eqb, all_zero, all_different};
+ghost use Rattle.std.specs.Prelude.{◌≡◌, length, ◌&&◌, ◌||◌};
+ghost use Rattle.rules.specs.Lists.{true, eqb, all_zero, all_different};
 ghost use Rattle.rules.specs.Records.{words, in_use, held};
 ghost use Rattle.rules.specs.Sound.{shaped, desk_good, bare, line_good, place_good, record_good};
 ghost use Rattle.index.specs.Usable.{usable};

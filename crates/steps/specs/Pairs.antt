@@ -1,6 +1,7 @@
 -- The records that an authentication names, by number: what the bench's and the desk's are judged by where they stand, and what
 -- either leaves.
-use Rattle.rules.specs.Lists.{ℕ, true, List, [], ◌∷◌, drop, get_or}
+use Rattle.std.specs.Prelude.{◌∷◌}
+use Rattle.rules.specs.Lists.{ℕ, true, List, [], drop, get_or}
 use Rattle.rules.specs.declared.Hall.{Hall}
 use Rattle.rules.specs.declared.Entry.{Entry}
 use Rattle.rules.specs.Hall.{BenchView, Till, number}

@@ -1,6 +1,6 @@
 -- The records that a sale and a clear name, by number, and what each is judged by where they stand.
-use Rattle.std.specs.Prelude.{◌≤◌}
-use Rattle.rules.specs.Lists.{ℕ, ◌+◌, ◌*◌, List, ◌++◌, length}
+use Rattle.std.specs.Prelude.{◌≤◌, ◌+◌, ◌*◌, ◌++◌}
+use Rattle.rules.specs.Lists.{ℕ, List, length}
 use Rattle.rules.specs.declared.Hall.{Hall}
 use Rattle.rules.specs.declared.Entry.{Entry}
 use Rattle.rules.specs.Hall.{Carnet, View, BenchView, Line, number}

@@ -1,5 +1,6 @@
 -- Numbers 2 and 3 where it is given which of the three fields the record's kind uses.
-use Rattle.rules.specs.Lists.{Bool, not, ◌&&◌, ◌||◌, ltb, eqb, List, [], ◌∷◌}
+use Rattle.std.specs.Prelude.{◌&&◌, ◌||◌, ◌∷◌}
+use Rattle.rules.specs.Lists.{Bool, not, ltb, eqb, List, []}
 use Rattle.rules.specs.Answers.{Rule, ◌⇐◌}
 use Rattle.rules.specs.declared.Entry.{Entry}
 use Rattle.rules.specs.declared.Hall.{Hall}

@@ -2,8 +2,8 @@
 
 #![tactic(auto)]
 
-ghost use Rattle.std.specs.Prelude.{◌≡◌, ◌+◌, ◌≤◌};
-ghost use Rattle.rules.specs.Lists.{◌||◌, not, leb, ltb, eqb, length, drop};
+ghost use Rattle.std.specs.Prelude.{◌≡◌, ◌+◌, ◌≤◌, ◌||◌};
+ghost use Rattle.rules.specs.Lists.{not, leb, ltb, eqb, length, drop};
 ghost use Rattle.rules.specs.Hall.{main_hall};
 ghost use Rattle.rules.specs.Answers.{first, Gives};
 ghost use Rattle.rules.specs.Tape.{entry_rules, entry_of, eight_bytes, read_at, write_entry};

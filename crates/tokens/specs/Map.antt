@@ -1,8 +1,8 @@
 -- Places marked in a map: 64 numbers of 64 bits, where bit k of number j, lowest first, is for place 64 j + k. In a map without
 -- numbers nothing is marked, and so every place is new.
-use Rattle.std.specs.Prelude.{◌≡◌}
+use Rattle.std.specs.Prelude.{◌≡◌, ◌/◌, ◌%◌, ◌^◌, ◌&&◌, ◌||◌, ◌∷◌}
 use Rattle.std.specs.Int.Bits.{bit_or}
-use Rattle.rules.specs.Lists.{ℕ, ◌/◌, ◌%◌, ◌^◌, Bool, true, cond, ◌&&◌, ◌||◌, eqb, List, [], ◌∷◌, length, get_or, set, replicate}
+use Rattle.rules.specs.Lists.{ℕ, Bool, true, cond, eqb, List, [], length, get_or, set, replicate}
 
 -- a map for all places, or none
 unfoldable pub mapped : List ℕ → Bool

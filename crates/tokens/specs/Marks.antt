@@ -1,7 +1,7 @@
 -- Places in a list of few tokens, marked in one number: bit i is for place i.
-use Rattle.std.specs.Prelude.{◌^◌}
+use Rattle.std.specs.Prelude.{◌^◌, ◌/◌, ◌%◌, ◌∷◌}
 use Rattle.std.specs.Int.Bits.{bit_or}
-use Rattle.rules.specs.Lists.{ℕ, ◌/◌, ◌%◌, cond, eqb, List, [], ◌∷◌, length, among, place_of, first_absent}
+use Rattle.rules.specs.Lists.{ℕ, cond, eqb, List, [], length, among, place_of, first_absent}
 use Rattle.tokens.specs.declared.marking.Found.{Found}
 
 -- the tokens that aren't marked, in their order

@@ -1,6 +1,6 @@
 -- Cells after some of them were moved.
-use Rattle.std.specs.Prelude.{◌≤◌, ◌⊎◌}
-use Rattle.rules.specs.Lists.{ℕ, ◌+◌, List, ◌++◌, take, drop}
+use Rattle.std.specs.Prelude.{◌≤◌, ◌⊎◌, ◌+◌, ◌++◌}
+use Rattle.rules.specs.Lists.{ℕ, List, take, drop}
 
 -- the n cells at one place also at another, and all else as it stands
 unfoldable pub moved : ℕ → ℕ → ℕ → List ℕ → List ℕ

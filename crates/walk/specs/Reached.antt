@@ -1,5 +1,6 @@
 -- How far the program has come: the bytes of the tape that it has walked, and the book that they lead to.
-use Rattle.rules.specs.Lists.{◌≡◌, ℕ, ◌*◌, true, List, length}
+use Rattle.std.specs.Prelude.{◌≡◌, ◌*◌}
+use Rattle.rules.specs.Lists.{ℕ, true, List, length}
 use Rattle.rules.specs.Hall.{main_hall}
 use Rattle.rules.specs.Sound.{good_list, empty_book}
 use Rattle.rules.specs.Form.{plain}
