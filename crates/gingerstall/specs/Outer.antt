@@ -14,8 +14,8 @@ pub record Packed (s : Stepped) (answer : ℕ) (after : List ℕ) : Type 0 where
   pub cells : after ≡ s.cells
 
 abbrev pub entry_from : ℕ → ℕ → ℕ → ℕ → ℕ → Entry
-entry_from kind bench customer zero amount =
-    record { kind = kind; bench = bench; customer = customer; byte3 = zero; amount = amount }
+entry_from kind bench customer byte3 amount =
+    record { kind = kind; bench = bench; customer = customer; byte3 = byte3; amount = amount }
 
 abbrev pub fields_of : Entry → List ℕ
 fields_of e = e.kind ∷ e.bench ∷ e.customer ∷ e.byte3 ∷ e.amount ∷ []
