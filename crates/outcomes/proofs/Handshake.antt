@@ -11,8 +11,9 @@ use Rattle.book.specs.declared.forms.Form.{Form}
 use Rattle.book.specs.declared.forms.Form.TheVariants.{Plain, Slip}
 use Rattle.keeps.proofs.Handshake.{doings, Handshaken, Handshakes, plain_handshakes}
 use Rattle.agree.proofs.SlipBook.{slip_handshakes}
-use Rattle.outcomes.specs.Calls.{Emptied, RunCall, StepCalls}
+use Rattle.outcomes.specs.Calls.{Emptied, RunCall, StepCalls, Worked}
 use Rattle.outcomes.proofs.Demand3.{emptied, ran, all_stepped}
+use Rattle.outcomes.proofs.Worked.{all_worked}
 
 handshakes : (f : Form) → Handshakes (form_of f)
 handshakes Plain = plain_handshakes
@@ -29,4 +30,10 @@ module _ (f : Form) (ts b : List ℕ) (made : Emptied b) (m : ℕ) (inside : m <
   pub steps_handshake : (es : List Entry) (vs ss b' : List ℕ) → StepCalls f ts b es vs ss b' → Handshaken (doings m es vs)
   steps_handshake es vs ss b' calls =
       let g = rw (emptied b made) at (all_stepped calls) in
+      rw g.verdicts ((handshakes f).along_tape main_hall ts es m inside)
+
+  -- a year of both, in any order
+  pub year_handshake : (es : List Entry) (vs ss b' : List ℕ) → Worked f ts b es vs ss b' → Handshaken (doings m es vs)
+  year_handshake es vs ss b' worked =
+      let g = rw (emptied b made) at (all_worked worked) in
       rw g.verdicts ((handshakes f).along_tape main_hall ts es m inside)

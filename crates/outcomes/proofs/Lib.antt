@@ -3,6 +3,8 @@
 pub mod Back
 pub mod Records
 pub mod Demand3
+pub mod InStep
+pub mod Year
 pub mod Walked
 pub mod Determined
 pub mod Handshake

@@ -1,10 +1,12 @@
 -- What granted runs and steps of the running code come to, in any order: the definition's steps over all their records.
 use mathlib.Core.Path.{refl, sym, ap, ◌∙◌}
-use Rattle.rules.specs.Lists.{ℕ, List, [], ◌∷◌, ◌++◌, length}
+use Rattle.rules.specs.Lists.{◌≡◌, ℕ, List, [], ◌∷◌, ◌++◌, length, get_or}
 use Rattle.rules.specs.Hall.{main_hall}
 use Rattle.rules.specs.declared.Entry.{Entry}
 use Rattle.rules.specs.Tape.{entries}
-use Rattle.rules.specs.Verdicts.{steps, RunGives}
+use Rattle.rules.specs.declared.Hall.{Hall}
+use Rattle.rules.specs.Form as rule
+use Rattle.rules.specs.Verdicts.{step, steps, RunGives}
 use Rattle.rules.proofs.Running.{steps_joined, run_does, run_granted}
 use Rattle.book.specs.Forms.{form_of}
 use Rattle.book.specs.declared.forms.Form.{Form}
@@ -40,3 +42,11 @@ all_worked begun = record { answer = refl; verdicts = refl; seconds = refl; book
 all_worked {f} {ts} {b} (◌run-by◌ {tape = tape} {v = v} {es = es} before call) =
     stepped_on f ts b es (entries (length v) tape) (all_worked before) (ran_steps call)
 all_worked {f} {ts} {b} (◌stepped-by◌ {es = es} {e = e} before call) = stepped_on f ts b es (e ∷ []) (all_worked before) (all_stepped (more call done))
+
+-- the two numbers at the place of one of the records: those of its step, in the book that the steps before it left
+pub numbers_at : (f : rule.Form) (h : Hall) (ts b : List ℕ) (es later : List Entry) (e : Entry)
+    → (get_or (steps f h ts b (es ++ e ∷ later)).verdicts (length es) 0 ≡ (step f h ts (steps f h ts b es).book e).number)
+    × (get_or (steps f h ts b (es ++ e ∷ later)).seconds (length es) 0 ≡ (step f h ts (steps f h ts b es).book e).second)
+unfolding steps
+numbers_at f h ts b [] later e = (refl, refl)
+numbers_at f h ts b (x ∷ es) later e = numbers_at f h ts (step f h ts b x).cells es later e

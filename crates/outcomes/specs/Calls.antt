@@ -1,5 +1,5 @@
 -- What a call is: a function's arguments, its result and the lent cells afterwards, and of these what the prover says that a caller
--- learns. A record here is one call, over the values that went in and came out.
+-- learns. What is declared here is one call, over the values that went in and came out, or calls one after the other.
 use Rattle.std.specs.Prelude.{◌≡◌, ◌+◌, ◌/◌, ◌%◌, ◌∷◌, ◌++◌}
 use Rattle.rules.specs.Lists.{ℕ, List, [], length, take}
 use Rattle.rules.specs.Hall.{main_hall, most_tokens}
@@ -7,7 +7,7 @@ use Rattle.rules.specs.declared.Entry.{Entry}
 use Rattle.rules.specs.declared.Reply.{Reply}
 use Rattle.rules.specs.Tape.{entries}
 use Rattle.book.specs.declared.forms.Form.{Form}
-use Rattle.book.specs.declared.forms.Form.TheVariants.{Plain}
+use Rattle.book.specs.declared.forms.Form.TheVariants.{Plain, Slip}
 use Rattle.book.proofs.writing.make_empty.Reads as make_empty
 use Rattle.desk.proofs.step.Reads as desk_step
 use Rattle.desk.proofs.run.Reads as desk_run
@@ -74,6 +74,24 @@ pub data Worked (f : Form) (ts b : List ℕ) : List Entry → List ℕ → List 
 
 infixl 20 ◌run-by◌
 infixl 20 ◌stepped-by◌
+-- two books worked on alike, p as a plain book and s as a slip book: runs over one tape, granted or refused, with buffers of the same
+-- lengths, and steps with one record, any number of either, in any order
+pub data Alike (ts p s : List ℕ) : List ℕ → List ℕ → Type 1 where
+  untouched : Alike ts p s p s
+  both_run : {p₁ s₁ p₂ s₂ tape vs ss vs' ss' v x w y : List ℕ} {n m : ℕ} → Alike ts p s p₁ s₁ → length vs ≡ length vs' → length ss ≡ length ss'
+      → RunCall Plain ts p₁ tape vs ss n p₂ v x → RunCall Slip ts s₁ tape vs' ss' m s₂ w y → Alike ts p s p₂ s₂
+  both_step : {p₁ s₁ p₂ s₂ : List ℕ} {e : Entry} {r q : Reply} → Alike ts p s p₁ s₁
+      → StepCall Plain ts p₁ e r p₂ → StepCall Slip ts s₁ e q s₂ → Alike ts p s p₂ s₂
+
+-- call by call both answered the same, and of each step, where a run was granted, the same two numbers
+pub data SameAnswers (ts p s : List ℕ) : (p' s' : List ℕ) → Alike ts p s p' s' → Type 1 where
+  at_first : SameAnswers ts p s p s untouched
+  run_alike : {p₁ s₁ p₂ s₂ tape vs ss vs' ss' v x w y : List ℕ} {n m : ℕ} {before : Alike ts p s p₁ s₁} {k : length vs ≡ length vs'} {l : length ss ≡ length ss'}
+      {one : RunCall Plain ts p₁ tape vs ss n p₂ v x} {two : RunCall Slip ts s₁ tape vs' ss' m s₂ w y}
+      → SameAnswers ts p s p₁ s₁ before → n ≡ m → (n ≡ 0 → v ≡ w) → (n ≡ 0 → x ≡ y) → SameAnswers ts p s p₂ s₂ (both_run before k l one two)
+  step_alike : {p₁ s₁ p₂ s₂ : List ℕ} {e : Entry} {r q : Reply} {before : Alike ts p s p₁ s₁} {one : StepCall Plain ts p₁ e r p₂} {two : StepCall Slip ts s₁ e q s₂}
+      → SameAnswers ts p s p₁ s₁ before → r ≡ q → SameAnswers ts p s p₂ s₂ (both_step before one two)
+
 -- ---- the walk's calls
 -- `filing::read_list` over the bytes of a list on file, with cells for the longest list: it answered n and left the list ts in front
 pub record ListCall (list : List ℕ) (n : ℕ) (ts : List ℕ) : Type 1 where
