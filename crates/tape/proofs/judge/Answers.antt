@@ -1,66 +1,52 @@
 -- Each kind is cited with what it uses, which the rules' lists give; where none of the eleven is found, it is no kind.
 use mathlib.Core.Path.{refl}
+use mathlib.Core.Logic.{⊎_elim}
+use native.Mathlib.Omega.{arith}
 use Rattle.rules.specs.Lists.{occ}
 use Rattle.tape.proofs.ByKind.{of_kind, no_kind}
 use Rattle.tape.proofs.judge.Goals as goal
 
-pub returns-then-kind-eq1 : goal.returns-then-kind-eq1
+pub returns-in-1 : goal.returns-in-1
 unfolding occ
-returns-then-kind-eq1 c = of_kind _ _ 1 _ refl refl c.if-kind-eq1.true c.fields.ensures
+returns-in-1 c =
+    ⊎_elim (λ q. of_kind _ _ 1 _ refl refl q c.fields.ensures)
+    (⊎_elim (λ q. of_kind _ _ 4 _ refl refl q c.fields.ensures) (λ q. of_kind _ _ 10 _ refl refl q c.fields.ensures)) c.in-1.is
 
-pub returns-then-kind-eq2 : goal.returns-then-kind-eq2
+pub returns-in-2 : goal.returns-in-2
 unfolding occ
-returns-then-kind-eq2 c = of_kind _ _ 2 _ refl refl c.if-kind-eq2.true c.fields-then-kind-eq2.ensures
+returns-in-2 c = ⊎_elim (λ q. of_kind _ _ 2 _ refl refl q c.fields-in-2.ensures) (λ q. of_kind _ _ 7 _ refl refl q c.fields-in-2.ensures) c.in-2.is
 
-pub returns-then-kind-eq3 : goal.returns-then-kind-eq3
+pub returns-in-3 : goal.returns-in-3
 unfolding occ
-returns-then-kind-eq3 c = of_kind _ _ 3 _ refl refl c.if-kind-eq3.true c.fields-then-kind-eq3.ensures
+returns-in-3 c =
+    ⊎_elim (λ q. of_kind _ _ 3 _ refl refl q c.fields-in-3.ensures)
+    (⊎_elim (λ q. of_kind _ _ 9 _ refl refl q c.fields-in-3.ensures) (λ q. of_kind _ _ 11 _ refl refl q c.fields-in-3.ensures)) c.in-3.is
 
-pub returns-then-kind-eq4 : goal.returns-then-kind-eq4
+pub returns-in-5 : goal.returns-in-5
 unfolding occ
-returns-then-kind-eq4 c = of_kind _ _ 4 _ refl refl c.if-kind-eq4.true c.fields-then-kind-eq4.ensures
+returns-in-5 c = of_kind _ _ 5 _ refl refl c.in-5.is c.fields-in-5.ensures
 
-pub returns-then-kind-eq5 : goal.returns-then-kind-eq5
+pub returns-in-6 : goal.returns-in-6
 unfolding occ
-returns-then-kind-eq5 c = of_kind _ _ 5 _ refl refl c.if-kind-eq5.true c.fields-then-kind-eq5.ensures
+returns-in-6 c = of_kind _ _ 6 _ refl refl c.in-6.is c.fields-in-6.ensures
 
-pub returns-then-kind-eq6 : goal.returns-then-kind-eq6
+pub returns-in-8 : goal.returns-in-8
 unfolding occ
-returns-then-kind-eq6 c = of_kind _ _ 6 _ refl refl c.if-kind-eq6.true c.fields-then-kind-eq6.ensures
+returns-in-8 c = of_kind _ _ 8 _ refl refl c.in-8.is c.fields-in-8.ensures
 
-pub returns-then-kind-eq7 : goal.returns-then-kind-eq7
-unfolding occ
-returns-then-kind-eq7 c = of_kind _ _ 7 _ refl refl c.if-kind-eq7.true c.fields-then-kind-eq7.ensures
-
-pub returns-then-kind-eq8 : goal.returns-then-kind-eq8
-unfolding occ
-returns-then-kind-eq8 c = of_kind _ _ 8 _ refl refl c.if-kind-eq8.true c.fields-then-kind-eq8.ensures
-
-pub returns-then-kind-eq9 : goal.returns-then-kind-eq9
-unfolding occ
-returns-then-kind-eq9 c = of_kind _ _ 9 _ refl refl c.if-kind-eq9.true c.fields-then-kind-eq9.ensures
-
-pub returns-then-kind-eq10 : goal.returns-then-kind-eq10
-unfolding occ
-returns-then-kind-eq10 c = of_kind _ _ 10 _ refl refl c.if-kind-eq10.true c.fields-then-kind-eq10.ensures
-
-pub returns-then-kind-eq11 : goal.returns-then-kind-eq11
-unfolding occ
-returns-then-kind-eq11 c = of_kind _ _ 11 _ refl refl c.if-kind-eq11.true c.fields-then-kind-eq11.ensures
-
-pub returns : goal.returns
-returns c =
+pub returns-in_default : goal.returns-in_default
+returns-in_default c =
     no_kind _ _
     record {
-      join_customer = c.if-kind-eq1.false;
-      join_bench = c.if-kind-eq2.false;
-      open_line = c.if-kind-eq3.false;
-      update = c.if-kind-eq4.false;
-      stock = c.if-kind-eq5.false;
-      sell = c.if-kind-eq6.false;
-      bench_authenticates = c.if-kind-eq7.false;
-      desk_authenticates = c.if-kind-eq8.false;
-      clear = c.if-kind-eq9.false;
-      top_up = c.if-kind-eq10.false;
-      clear_living = c.if-kind-eq11.false;
+      join_customer = λ q. grind arith;
+      join_bench = λ q. grind arith;
+      open_line = λ q. grind arith;
+      update = λ q. grind arith;
+      stock = λ q. grind arith;
+      sell = λ q. grind arith;
+      bench_authenticates = λ q. grind arith;
+      desk_authenticates = λ q. grind arith;
+      clear = λ q. grind arith;
+      top_up = λ q. grind arith;
+      clear_living = λ q. grind arith;
     }
