@@ -11,7 +11,8 @@ use Rattle.rules.specs.Lists.{ℕ, zero, suc, ◌+◌, true, false, cond, not, L
 use Rattle.rules.specs.Hall.{Place, Line, number}
 use Rattle.rules.specs.Records.{sales, cells, held}
 use Rattle.rules.specs.Sound.{empty_book}
-use Rattle.rules.specs.Tape.{ClearLiving, kind_of, uses_bench, uses_customer}
+use Rattle.rules.specs.Tape.{kind_of, uses_bench, uses_customer}
+use Rattle.rules.specs.declared.kind.Kind.TheVariants.{ClearLiving}
 use Rattle.rules.specs.Slips.{open_slip, open_slips, slip_tokens, slips_good, slip}
 use Rattle.rules.specs.Steps.{dealt, the_view, the_line}
 use Rattle.rules.specs.Verdicts.{verdict, step, steps}

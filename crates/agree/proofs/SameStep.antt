@@ -8,7 +8,8 @@ use Rattle.rules.specs.declared.Entry.{Entry}
 use Rattle.rules.specs.Lists.{ℕ, ◌+◌, ◌-◌, min, true, List, [], ◌∷◌, ◌++◌, length, take, drop, every, occ, is_in, all_different}
 use Rattle.rules.specs.Hall.{most_held, most_sales, Desk, Carnet, View, BenchView, Till, Line, number, records}
 use Rattle.rules.specs.Records.{words, in_use, amount, count, sales, held, filled, made, record_at}
-use Rattle.rules.specs.Tape.{Sell, kind_of, uses_bench, uses_customer}
+use Rattle.rules.specs.Tape.{kind_of, uses_bench, uses_customer}
+use Rattle.rules.specs.declared.kind.Kind.TheVariants.{Sell}
 use Rattle.rules.specs.Form.{plain}
 use Rattle.rules.specs.Slips.{is_run, slip_tokens, slip_pairs, slip_of, slip_line_good, slip_sum, slips_good, open_slip, open_slips, opened_line, open_book, slip}
 use Rattle.rules.specs.Steps.{dealt, left, fresh, joining, dealing, updating, stocking, sold_line, selling, authenticating, settling, clearing, topping_up, changes, the_carnet, the_view, the_line}

@@ -10,7 +10,8 @@ use Rattle.rules.specs.Lists.{ℕ, ◌+◌, ◌*◌, Bool, true, false, not, ◌
 use Rattle.rules.specs.Hall.{most_held, most_budget, Carnet, View, BenchView, Till, Line, number, records, views, customer_views}
 use Rattle.rules.specs.Answers.{Rule, ◌⇐◌, first}
 use Rattle.rules.specs.Records.{in_use, amount, count, sales, handshake, cells, held, record_at}
-use Rattle.rules.specs.Tape.{BenchAuthenticates, DeskAuthenticates, Clear, ClearLiving, kind_of, is, clears, uses_bench, well_formed, in_hall, entry_rules}
+use Rattle.rules.specs.Tape.{kind_of, is, clears, uses_bench, well_formed, in_hall, entry_rules}
+use Rattle.rules.specs.declared.kind.Kind.TheVariants.{BenchAuthenticates, DeskAuthenticates, Clear, ClearLiving}
 use Rattle.rules.specs.Sound.{total, most_total}
 use Rattle.rules.specs.Form.{plain}
 use Rattle.rules.specs.Slips.{slip_tokens, open_book, slip_sound, slip}

@@ -12,7 +12,8 @@ use Rattle.rules.specs.Lists.{ℕ, suc, ◌+◌, ◌*◌, min, true, false, cond
 use Rattle.rules.specs.Hall.{most_sales, Place, Carnet, View, Line, number}
 use Rattle.rules.specs.Records.{amount, count, sales, cells, held, filled, made, with_amount}
 use Rattle.rules.specs.Sound.{empty_book}
-use Rattle.rules.specs.Tape.{Sell, kind_of, clears, uses_bench}
+use Rattle.rules.specs.Tape.{kind_of, clears, uses_bench}
+use Rattle.rules.specs.declared.kind.Kind.TheVariants.{Sell}
 use Rattle.rules.specs.Slips.{open_slip, slip_tokens, slip_of, slip_pairs, open_book, slip}
 use Rattle.rules.specs.Steps.{Change, dealt, fresh, joining, dealing, updating, stocking, sold_line, selling, authenticating, settling, living, clearing, topping_up, changes, the_carnet, the_view, the_line}
 use Rattle.rules.specs.Verdicts.{verdict, step, steps}

@@ -7,10 +7,10 @@ ghost use Rattle.rules.specs.Hall.{Carnet, View, BenchView, Till, Line, number, 
 ghost use Rattle.rules.specs.Records.{words, in_use, amount, count, sales, handshake, cells, held, record_at};
 
 pub mod forms;
+pub mod halls;
 pub mod writing;
 
 use rules::Hall;
-use tokens::searching;
 
 // ---- a record, read
 
@@ -18,9 +18,8 @@ pub fn record_at(book: &[u32], k: usize) -> &[u32]
     requires { words * k + words ≤ length book.now }
     ensures { result.now ≡ record_at k book.now }
 {
-    let a = 36 * k;
-    let e = a + 36;
-    &book[a..e]
+    let from = 36 * k;
+    &book[from..from + 36]
 }
 
 pub fn in_use(rec: &[u32]) -> u32
@@ -71,9 +70,8 @@ pub fn tokens_of(rec: &[u32]) -> &[u32]
     requires { 4 ≤ length rec.now }
     ensures { result.now ≡ held rec.now }
 {
-    let n = searching::smaller(count(rec) as usize, rec.len() - 4);
-    let e = 4 + n;
-    &rec[4..e]
+    let n = (count(rec) as usize).min(rec.len() - 4);
+    &rec[4..4 + n]
 }
 
 // ---- record k of a book, read
@@ -82,8 +80,7 @@ pub fn word_of(book: &[u32], k: usize, w: usize) -> u32
     requires { (words * k + words ≤ length book.now) × (w < words) }
     ensures { result ≡ get_or (record_at k book.now) w 0 }
 {
-    let rec = record_at(book, k);
-    rec[w]
+    record_at(book, k)[w]
 }
 
 pub fn tokens_at(book: &[u32], k: usize) -> &[u32]
@@ -100,35 +97,35 @@ pub fn tokens_at(book: &[u32], k: usize) -> &[u32]
 pub fn carnet(h: Hall, c: u8) -> usize
     ensures { result ≡ number h (Carnet c) }
 {
-    1 + c as usize
+    1 + usize::from(c)
 }
 
 pub fn view(h: Hall, c: u8) -> usize
     requires { (h.customers ≤ 64) × (h.benches ≤ 64) }
     ensures { result ≡ number h (View c) }
 {
-    1 + h.customers + c as usize
+    1 + h.customers + usize::from(c)
 }
 
 pub fn bench_view(h: Hall, m: u8) -> usize
     requires { (h.customers ≤ 64) × (h.benches ≤ 64) }
     ensures { result ≡ number h (BenchView m) }
 {
-    1 + 2 * h.customers + m as usize
+    1 + 2 * h.customers + usize::from(m)
 }
 
 pub fn till(h: Hall, m: u8) -> usize
     requires { (h.customers ≤ 64) × (h.benches ≤ 64) }
     ensures { result ≡ number h (Till m) }
 {
-    1 + 2 * h.customers + h.benches + m as usize
+    1 + 2 * h.customers + h.benches + usize::from(m)
 }
 
 pub fn line(h: Hall, m: u8, c: u8) -> usize
     requires { (h.customers ≤ 64) × (h.benches ≤ 64) }
     ensures { result ≡ number h (Line m c) }
 {
-    1 + 2 * h.customers + 2 * h.benches + h.customers * m as usize + c as usize
+    1 + 2 * h.customers + 2 * h.benches + h.customers * usize::from(m) + usize::from(c)
 }
 
 // ---- the whole book

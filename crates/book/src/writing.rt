@@ -1,22 +1,19 @@
 // Records written, each as a part of the book: whole, copied, or in its first words; a single word; and the empty book.
 ghost use Rattle.std.specs.Prelude.{◌≡◌, ◌∷◌, ◌++◌, ◌+◌, ◌*◌, ◌-◌, ◌≤◌, ◌<◌, length, take, drop, replicate};
-ghost use Rattle.rules.specs.Answers.{Gives};
+ghost use Rattle.rules.specs.Answers.{Gives, verdict_of};
 ghost use Rattle.rules.specs.Hall.{main_hall, most_held};
 ghost use Rattle.rules.specs.Records.{words, cells, filled, made, with_word, record_at, put};
 ghost use Rattle.rules.specs.Bytes.{make_empty};
 
 use rules::Hall;
+use rules::refusal::Refusal;
 use tokens::{laying, moving};
 
 // Every word 0.
 pub fn wipe(part: &mut [u32])
     ensures { part.new ≡ replicate (length part.old) 0 }
 {
-    let mut i = 0;
-    while i < part.len() {
-        part[i] = 0;
-        i += 1;
-    }
+    part.fill(0);
 }
 
 pub fn write_head(rec: &mut [u32], used: u32, amount: u32, count: u32, word3: u32)
@@ -53,8 +50,7 @@ pub fn cut_record(rec: &mut [u32], amount: u32, count: u32, word3: u32, n: usize
     ensures { rec.new ≡ filled 1 amount count word3 (take n (cells rec.old)) }
 {
     write_head(rec, 1, amount, count, word3);
-    let end = 4 + n;
-    wipe(&mut rec[end..]);
+    wipe(&mut rec[4 + n..]);
 }
 
 // Record k, lent to the writer as a part from the book's middle.
@@ -71,8 +67,14 @@ pub fn put_record(
     ensures { book.new ≡ put k (filled used amount count word3 cells.now) book.old }
 {
     let from = 36 * k;
-    let to = from + 36;
-    write_record(&mut book[from..to], used, amount, count, word3, cells);
+    write_record(
+        &mut book[from..from + 36],
+        used,
+        amount,
+        count,
+        word3,
+        cells,
+    );
 }
 
 // Record k, in use and holding the tokens.
@@ -97,27 +99,25 @@ pub fn set_word(book: &mut [u32], k: usize, w: usize, x: u32)
     requires { (words * k + words ≤ length book.old) × (w < words) }
     ensures { book.new ≡ put k (with_word w x (record_at k book.old)) book.old }
 {
-    let at = 36 * k + w;
-    book[at] = x;
+    book[36 * k + w] = x;
 }
 
 // ---- the empty book
 
-pub fn make_empty_of(h: Hall, book: &mut [u32]) -> u8
+pub fn make_empty_of(h: Hall, book: &mut [u32]) -> Result<(), Refusal>
     requires { (h.customers ≤ 64) × (h.benches ≤ 64) }
-    ensures { Gives (make_empty h book.old) result book.new }
+    ensures { Gives (make_empty h book.old) (verdict_of result) book.new }
 {
     if book.len() != super::book_words(h) {
-        return 1;
+        return Err(Refusal::Unsound);
     }
     wipe(book);
-    let none = [0u32; 0];
-    put_made(book, 0, 0, 0, &none);
-    0
+    put_made(book, 0, 0, 0, &[]);
+    Ok(())
 }
 
-pub fn make_empty(book: &mut [u32]) -> u8
-    ensures { Gives (make_empty main_hall book.old) result book.new }
+pub fn make_empty(book: &mut [u32]) -> Result<(), Refusal>
+    ensures { Gives (make_empty main_hall book.old) (verdict_of result) book.new }
 {
     make_empty_of(rules::MAIN, book)
 }

@@ -86,9 +86,9 @@ module _ (r : List ℕ) (long : length r ≡ words) where
       front : take m (cells mid) ≡ take m (drop n (cells r))
       front = ap (take m) moved_on ∙ take_at (take m (drop n (cells r))) _ m size
 
-      pub first_dropped : (a s c x left : ℕ) (new : List ℕ) → c ≡ count r → x ≡ min n c → left ≡ c - x → new ≡ filled 1 a left s (take m (cells mid)) → new ≡ made a s (drop n (held r))
+      pub first_dropped : (a s c left : ℕ) (new : List ℕ) → c ≡ count r → left ≡ c - n → new ≡ filled 1 a left s (take m (cells mid)) → new ≡ made a s (drop n (held r))
       unfolding made
-      first_dropped a s c x left new ec ex el f =
+      first_dropped a s c left new ec el f =
           let many : left ≡ length (drop n (held r)) = omega (arith, number) in
           let rest : take m (cells mid) ≡ drop n (held r) ++ zeros (m - length (drop n (held r))) =
           front

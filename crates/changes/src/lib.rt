@@ -13,7 +13,7 @@ ghost use Rattle.changes.specs.Found.{Neat, Party, Enough, Bench, Account};
 pub mod lines;
 
 use book::writing;
-use tokens::{marking, moving, searching};
+use tokens::{marking, moving};
 
 // ---- one record, of which some tokens are kept
 
@@ -24,15 +24,14 @@ fn drop_first(rec: &mut [u32], n: usize, m: usize, amount: u32, word3: u32)
     ensures { rec.new ≡ made amount word3 (drop n (held rec.old)) }
 {
     let count = book::count(rec) as usize;
-    let left = count - searching::smaller(n, count);
+    let left = count.saturating_sub(n);
     moving::move_forth(rec, 4 + n, m, 4);
     writing::write_head(rec, 1, amount, left as u32, word3);
     // zeros stand behind the cells moved, unless a token was so far back
     if count <= m {
         return;
     }
-    let end = 4 + m;
-    writing::wipe(&mut rec[end..]);
+    writing::wipe(&mut rec[4 + m..]);
 }
 
 // Record k without its first n tokens, m cells moved: a carnet after a sale, a till and the desk's view of it after an
@@ -51,7 +50,7 @@ fn drop_marked(rec: &mut [u32], marks: u32, amount: u32, word3: u32)
     requires { length rec.old ≡ words }
     ensures { rec.new ≡ made amount word3 (unmarked marks (held rec.old)) }
 {
-    let n = searching::smaller(book::count(rec) as usize, 32);
+    let n = (book::count(rec) as usize).min(32);
     let kept = marking::close_up(&mut rec[4..], n, marks);
     writing::cut_record(rec, amount, kept as u32, word3, kept);
 }
@@ -73,9 +72,8 @@ pub fn enter(book: &mut [u32], own: usize, view: usize, amount: u32)
     requires { Party book.old own view }
     ensures { book.new ≡ put view (made amount 0 []) (put own (made 0 0 []) book.old) }
 {
-    let none = [0u32; 0];
-    writing::put_made(book, own, 0, 0, &none);
-    writing::put_made(book, view, amount, 0, &none);
+    writing::put_made(book, own, 0, 0, &[]);
+    writing::put_made(book, view, amount, 0, &[]);
 }
 
 // The next n tokens of the list replace what a party and the desk's view of it hold; the desk counts them as dealt.
@@ -112,6 +110,5 @@ pub fn settle(book: &mut [u32], view: usize, bench: usize, line: usize, marks: u
     strike(book, view, marks, budget, 0);
     writing::set_word(book, bench, 1, balance + paid);
     writing::set_word(book, bench, 3, 0);
-    let none = [0u32; 0];
-    writing::put_made(book, line, 0, 0, &none);
+    writing::put_made(book, line, 0, 0, &[]);
 }

@@ -13,7 +13,7 @@ use book::forms::Form;
 use book::writing;
 use slips::opening;
 use tokens::marking::Found;
-use tokens::{marking, moving, searching};
+use tokens::{marking, moving};
 
 // ---- a line's tokens, found in a view
 
@@ -26,8 +26,7 @@ fn find_slips(list: &[u32], left: usize, pairs: &[u32], view: &[u32]) -> Found
     let mut living = 0;
     let mut seen = 0;
     let mut marks = 0;
-    let mut i = 0;
-    while i < left {
+    for i in 0..left {
         let tokens = opening::slip_part(list, pairs[2 * i], pairs[2 * i + 1] as usize);
         let here = marking::find(view, tokens, marks);
         // all before it live
@@ -37,12 +36,11 @@ fn find_slips(list: &[u32], left: usize, pairs: &[u32], view: &[u32]) -> Found
         seen += tokens.len();
         living += here.living;
         marks = here.marks;
-        i += 1;
     }
     Found {
-        dead: dead,
-        living: living,
-        marks: marks,
+        dead,
+        living,
+        marks,
     }
 }
 
@@ -112,12 +110,11 @@ pub fn sell(form: Form, book: &mut [u32], carnet: usize, line: usize, n: u32)
 {
     let count = book::word_of(book, line, 2);
     let sales = book::word_of(book, line, 3);
-    let one = searching::smaller(n as usize, 1) as u32;
     let held = book::word_of(book, carnet, 2) as usize;
     put_sale(form, book, carnet, line, n as usize);
     let from = 36 * line;
     let to = from + 36;
-    writing::write_head(&mut book[from..to], 1, 0, count + n, sales + one);
-    let m = searching::smaller(held, 32 - n as usize);
+    writing::write_head(&mut book[from..to], 1, 0, count + n, sales + n.min(1));
+    let m = held.min(32 - n as usize);
     super::keep_rest(book, carnet, n as usize, m, 0, 0);
 }

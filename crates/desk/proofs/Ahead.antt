@@ -11,8 +11,7 @@ use Rattle.rules.specs.declared.Entry.{Entry}
 use Rattle.rules.specs.Lists.{ℕ, zero, suc, ◌+◌, ◌*◌, ◌-◌, true, List, [], ◌∷◌, ◌++◌, length, take, drop}
 use Rattle.rules.specs.Tape.{entry_of, entries}
 use Rattle.rules.specs.Form.{Form}
-use Rattle.rules.specs.declared.Reply.{Reply}
-use Rattle.rules.specs.Verdicts.{Stepped, StepGives, step, Ran, RunGives, idle, onward, steps}
+use Rattle.rules.specs.Verdicts.{Stepped, Reply, verdict_in, second_in, StepGives, step, Ran, RunGives, idle, onward, steps}
 use Rattle.rules.proofs.Running.{then, steps_answer}
 use Rattle.keeps.proofs.Keeps.{Kept}
 
@@ -78,14 +77,14 @@ module _ (f : Form) (h : Hall) (ts b₀ tape : List ℕ) (n : ℕ) where
 
   pub goes_on : Kept f → (i : ℕ) (vs ss b : List ℕ) (e : Entry) (r : Reply) (b' : List ℕ) → i < n → Ahead i vs ss b
       → e ≡ entry_of (drop (8 * i) tape) → StepGives (step f h ts b e) r b'
-      → Ahead (i + 1) (set vs i r.verdict) (set ss i r.second) b'
+      → Ahead (i + 1) (set vs i (verdict_in r)) (set ss i (second_in r)) b'
   unfolding steps
   goes_on kept i vs ss b e r b' l a is gives =
       let next : behind n tape i ≡ e ∷ behind n tape (i + 1) = behind_next n tape i l ∙ ap (λ (x : Entry). x ∷ behind n tape (i + 1)) (sym is) in
       record {
         good = ap (f.good h ts) gives.cells ∙ kept.by_step h ts b e a.good;
-        size = length-set vs i r.verdict ∙ a.size;
-        second_size = length-set ss i r.second ∙ a.second_size;
+        size = length-set vs i (verdict_in r) ∙ a.size;
+        second_size = length-set ss i (second_in r) ∙ a.second_size;
         all =
             rw (gives.number, gives.second, gives.cells)
             (one_more i vs ss (step f h ts b e) (steps f h ts (step f h ts b e).cells (behind n tape (i + 1))) (omega (arith, l, a.size)) (omega (arith, l, a.second_size))

@@ -2,8 +2,8 @@
 -- afterwards, is a value of the arguments.
 use Prim.Native.Nat.{ℕ}
 use mathlib.Core.List.{List}
-use Rattle.rules.specs.declared.Reply.{Reply}
-use Rattle.rules.proofs.Determined.{Determined, determined, both, replied}
+use Rattle.rules.specs.Verdicts.{Reply}
+use Rattle.rules.proofs.Determined.{Determined, determined, both, answered, Verdict, replied}
 use Rattle.desk.proofs.is_good.Reads as is_good_call
 use Rattle.desk.proofs.step_known.Reads as step_known_call
 use Rattle.desk.proofs.run_known.Reads as run_known_call
@@ -24,11 +24,11 @@ run_known_determined κs a = determined _ _ _ (λ z e p. both p.book (both p.ver
 step_of_determined : (κs : _) (a : _) → Determined {O = Reply × List ℕ} (step_of_call.Learnt κs a) (λ z e. (z, e.1.1.1.0.now))
 step_of_determined κs a = determined _ _ _ (λ z e p. both (replied p) p.cells)
 
-run_of_determined : (κs : _) (a : _) → Determined {O = ℕ × (List ℕ × (List ℕ × List ℕ))} (run_of_call.Learnt κs a) (λ z e. (z, (e.1.1.1.0.now, (e.1.1.1.1.1.0.now, e.1.1.1.1.1.1.0.now))))
-run_of_determined κs a = determined _ _ _ (λ z e p. both p.answer (both p.book (both p.verdicts p.seconds)))
+run_of_determined : (κs : _) (a : _) → Determined {O = Verdict × (List ℕ × (List ℕ × List ℕ))} (run_of_call.Learnt κs a) (λ z e. (z, (e.1.1.1.0.now, (e.1.1.1.1.1.0.now, e.1.1.1.1.1.1.0.now))))
+run_of_determined κs a = determined _ _ _ (λ z e p. both (answered p.answer) (both p.book (both p.verdicts p.seconds)))
 
 step_determined : (κs : _) (a : _) → Determined {O = Reply × List ℕ} (step_call.Learnt κs a) (λ z e. (z, e.1.1.0.now))
 step_determined κs a = determined _ _ _ (λ z e p. both (replied p) p.cells)
 
-run_determined : (κs : _) (a : _) → Determined {O = ℕ × (List ℕ × (List ℕ × List ℕ))} (run_call.Learnt κs a) (λ z e. (z, (e.1.1.0.now, (e.1.1.1.1.0.now, e.1.1.1.1.1.0.now))))
-run_determined κs a = determined _ _ _ (λ z e p. both p.answer (both p.book (both p.verdicts p.seconds)))
+run_determined : (κs : _) (a : _) → Determined {O = Verdict × (List ℕ × (List ℕ × List ℕ))} (run_call.Learnt κs a) (λ z e. (z, (e.1.1.0.now, (e.1.1.1.1.0.now, e.1.1.1.1.1.0.now))))
+run_determined κs a = determined _ _ _ (λ z e p. both (answered p.answer) (both p.book (both p.verdicts p.seconds)))

@@ -1,79 +1,63 @@
 -- From a book that is known to be sound to what each kind's function asks for, and back from its answer to the step's.
 use mathlib.Core.Path.{◌≡◌, refl, sym, ap, ◌∙◌}
-use borrow.Author.Tests.{not-false}
 use Rattle.rules.specs.declared.Hall.{Hall}
 use Rattle.rules.specs.declared.Entry.{Entry}
-use Rattle.rules.specs.Lists.{ℕ, true, false, List}
-use Rattle.rules.specs.Answers.{first, Answer, Gives}
-use Rattle.rules.specs.Tape.{JoinCustomer, JoinBench, OpenLine, Update, Stock, Sell, BenchAuthenticates, DeskAuthenticates, TopUp, kind_of, clears, entry_rules}
-use Rattle.rules.specs.Form.{Form}
-use Rattle.rules.specs.declared.Reply.{Reply}
-use Rattle.rules.specs.Verdicts.{Stepped, StepGives, step}
-use Rattle.rules.proofs.Answering.{passed as rules-passed}
-use Rattle.rules.proofs.Tests.{never}
-use Rattle.rules.proofs.ByKind.{IsKind, by_kind}
-use Rattle.rules.proofs.Granted.{formed_kind}
+use Rattle.rules.specs.declared.kind.Kind.{Kind}
+use Rattle.rules.specs.Lists.{ℕ, false, List}
+use Rattle.rules.specs.Answers.{first, Answer, Gives, verdict_of}
+use Rattle.rules.specs.Tape.{kind_of, clears, entry_rules}
+use Rattle.std.specs.Prelude.{Result, Ok, Err}
+use Rattle.rules.specs.declared.refusal.Refusal.{Refusal}
+use Rattle.rules.specs.Verdicts.{Stepped, Reply, verdict_in, second_in, StepGives, step}
 use Rattle.rules.proofs.Dead.{second_other}
-use Rattle.kinds.proofs.Ready.{Works}
+use Rattle.book.specs.Forms.{form_of}
+use Rattle.book.specs.declared.forms.Form as code
+use Rattle.kinds.proofs.Ready.{Ready}
 use Rattle.kinds.specs.Kinds.{Placed, Passed, Listed, numbered}
-use Rattle.steps.specs.Replies.{alone}
+use Rattle.steps.proofs.sales.Stood.{works}
 use Rattle.desk.specs.Known.{Known}
+use Rattle.desk.specs.Replies.{single}
 
-module _ (f : Form) (h : Hall) (ts b : List ℕ) (e : Entry) {a : Answer} (is : step f h ts b e ≡ numbered f h ts b e a) where
-  -- a kind that has a second number
-  pub as_step : {r : Reply} {cells : List ℕ} → StepGives (numbered f h ts b e a) r cells → StepGives (step f h ts b e) r cells
-  as_step g = rw is g
+one_verdict : (answer : Result (Unit {0}) Refusal) → verdict_in (single answer) ≡ verdict_of answer
+one_verdict (Ok done) = refl
+one_verdict (Err why) = refl
 
-  -- no kind but a clear has one
-  pub as_other : {n : ℕ} {cells : List ℕ} → clears e.kind ≡ false → Gives a n cells → StepGives (step f h ts b e) (alone n) cells
-  as_other other g =
-      record {
-        number = g.number ∙ ap (λ (s : Stepped). s.number) (sym is);
-        second = sym (second_other f h ts b e other);
-        cells = g.cells ∙ ap (λ (s : Stepped). s.cells) (sym is);
-      }
+one_second : (answer : Result (Unit {0}) Refusal) → second_in (single answer) ≡ 0
+one_second (Ok done) = refl
+one_second (Err why) = refl
 
--- no kind but the last that is asked for
-pub record Other (k : ℕ) : Type 0 where
-  pub join_customer : k ≡ kind_of JoinCustomer → ⊥
-  pub join_bench : k ≡ kind_of JoinBench → ⊥
-  pub open_line : k ≡ kind_of OpenLine → ⊥
-  pub update : k ≡ kind_of Update → ⊥
-  pub stock : k ≡ kind_of Stock → ⊥
-  pub sell : k ≡ kind_of Sell → ⊥
-  pub bench_authenticates : k ≡ kind_of BenchAuthenticates → ⊥
-  pub desk_authenticates : k ≡ kind_of DeskAuthenticates → ⊥
-  pub clears_none : clears k ≡ false
+-- a record of a kind, called as `step_kind`'s contract asks
+module _ (form : code.Form) (h : Hall) (ts b : List ℕ) (e : Entry) (kind : Kind)
+    (pre : Known (form_of form) h ts b × (first (entry_rules h e) ≡ 0) × (kind_of kind ≡ e.kind)) where
+  pub passed : Passed (form_of form) h ts b e
+  passed = record { good = pre.0.good; formed = pre.1 }
 
-other_tops_up : (k : ℕ) → IsKind k → Other k → k ≡ kind_of TopUp
-other_tops_up =
-    by_kind (λ (k : ℕ). Other k → k ≡ kind_of TopUp)
-    record {
-      join_customer = λ o. absurd (o.join_customer refl);
-      join_bench = λ o. absurd (o.join_bench refl);
-      open_line = λ o. absurd (o.open_line refl);
-      update = λ o. absurd (o.update refl);
-      stock = λ o. absurd (o.stock refl);
-      sell = λ o. absurd (o.sell refl);
-      bench_authenticates = λ o. absurd (o.bench_authenticates refl);
-      desk_authenticates = λ o. absurd (o.desk_authenticates refl);
-      clear = λ o. never true refl o.clears_none;
-      top_up = λ o. refl;
-      clear_living = λ o. never true refl o.clears_none;
-    }
+  pub ready : Ready h ts b
+  ready = (works form).ready h ts b pre.0.good
 
-module _ (f : Form) (h : Hall) (ts b : List ℕ) (e : Entry) where
-  module _ (w : Works f) (k : Known f h ts b) (formed : first (entry_rules h e) ≡ 0) where
-    pub passed : Passed f h ts b e
-    passed = record { good = k.good; formed = formed }
+  pub listed : Listed ts b
+  listed = record { short = ready.list; dealt_few = ready.dealt_few }
 
-    pub placed : (i : ℕ) → e.kind ≡ i → Placed h b e i
-    placed i q =
-        record { customers = k.customers; benches = k.benches; long = (w.ready h ts b k.good).long; kind = q; formed = formed }
+  pub placed : (i : ℕ) → e.kind ≡ i → Placed h b e i
+  placed i q =
+      record { customers = pre.0.customers; benches = pre.0.benches; long = ready.long; kind = q; formed = pre.1 }
 
-    pub listed : Listed ts b
-    listed = let r = w.ready h ts b k.good in record { short = r.list; dealt_few = r.dealt_few }
+  module _ {k : Kind} (is : kind ≡ k) where
+    pub is_number : e.kind ≡ kind_of k
+    is_number = sym pre.2 ∙ ap (λ (x : Kind). kind_of x) is
 
-    pub tops_up : Other e.kind → e.kind ≡ kind_of TopUp
-    unfolding entry_rules
-    tops_up = other_tops_up e.kind (formed_kind e (not-false _ (rules-passed (entry_rules h e) refl formed 2)))
+    pub stands : Placed h b e (kind_of k)
+    stands = placed (kind_of k) is_number
+
+    -- no kind but a clear has a second number
+    pub as_single : {a : Answer} → (Passed (form_of form) h ts b e → e.kind ≡ kind_of k → step (form_of form) h ts b e ≡ numbered (form_of form) h ts b e a)
+        → clears (kind_of k) ≡ false → (answer : Result (Unit {0}) Refusal) {r : Reply} {cells : List ℕ} → Gives a (verdict_of answer) cells → r ≡ single answer
+        → StepGives (step (form_of form) h ts b e) r cells
+    as_single law other answer g one =
+        let same = sym (law passed is_number) in
+        rw one
+        (record {
+          number = one_verdict answer ∙ g.number ∙ ap (λ (s : Stepped). s.number) same;
+          second = one_second answer ∙ sym (second_other (form_of form) h ts b e (ap clears is_number ∙ other));
+          cells = g.cells ∙ ap (λ (s : Stepped). s.cells) same;
+        })

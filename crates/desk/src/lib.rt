@@ -4,18 +4,21 @@
 
 #![tactic(auto)]
 
-ghost use Rattle.std.specs.Prelude.{◌≡◌, ◌*◌, ◌≤◌, length, false};
+ghost use Rattle.std.specs.Prelude.{◌≡◌, ◌*◌, ◌≤◌, length};
 ghost use Rattle.rules.specs.Hall.{main_hall};
-ghost use Rattle.rules.specs.Answers.{first};
-ghost use Rattle.rules.specs.Tape.{clears, entry_rules, entries};
+ghost use Rattle.rules.specs.Lists.{eqb};
+ghost use Rattle.rules.specs.Answers.{first, verdict_of};
+ghost use Rattle.rules.specs.Tape.{kind_of, entry_rules, entries};
 ghost use Rattle.rules.specs.Verdicts.{step, StepGives, steps, one_each, run, RunGives};
 ghost use Rattle.book.specs.Forms.{form_of};
-ghost use Rattle.steps.specs.Replies.{alone};
 ghost use Rattle.desk.specs.Known.{Known};
+ghost use Rattle.desk.specs.Replies.{single};
 
 use book::forms::Form;
-use rules::{Entry, Hall, Reply};
-use steps::{alone, handshake, sales};
+use rules::kind::Kind;
+use rules::refusal::{Refusal, Reply};
+use rules::{Entry, Hall, refusal};
+use steps::{handshake, sales};
 
 pub fn is_good(form: Form, h: Hall, tokens: &[u32], book: &[u32]) -> bool
     requires { (h.customers ≤ 64) × (h.benches ≤ 64) }
@@ -29,68 +32,40 @@ pub fn is_good(form: Form, h: Hall, tokens: &[u32], book: &[u32]) -> bool
 
 // ---- over a book that is known to be sound
 
-// The record has passed numbers 1 to 3: its kind's own checks and changes. No kind here has a second number.
-fn step_other(form: Form, h: Hall, tokens: &[u32], book: &mut [u32], e: Entry) -> u8
-    requires { Known (form_of form) h tokens.now book.old × (first (entry_rules h e) ≡ 0) × (clears e.kind ≡ false) }
-    ensures { StepGives (step (form_of form) h tokens.now book.old e) (alone result) book.new }
+// A reply without a second number: every kind's but a clear's.
+fn single(answer: Result<(), Refusal>) -> Reply
+    ensures { result ≡ single answer }
 {
-    if e.kind == 1 {
-        return steps::join_customer(h, book, e);
-    }
-    if e.kind == 2 {
-        return steps::join_bench(h, book, e);
-    }
-    if e.kind == 3 {
-        return steps::open_line(h, book, e);
-    }
-    if e.kind == 4 {
-        return steps::update(h, tokens, book, e);
-    }
-    if e.kind == 5 {
-        return steps::stock(h, tokens, book, e);
-    }
-    if e.kind == 6 {
-        return sales::sell(form, h, tokens, book, e);
-    }
-    if e.kind == 7 {
-        return handshake::bench_authenticates(h, book, e);
-    }
-    if e.kind == 8 {
-        return handshake::desk_authenticates(h, book, e);
-    }
-    steps::top_up(h, book, e)
+    answer?;
+    Ok(0)
 }
 
-// Either clear, of a whole line or of what lives in it.
-fn is_clear(kind: u8) -> bool
-    ensures { result ≡ clears kind }
-{
-    if kind == 9 {
-        return true;
-    }
-    kind == 11
-}
-
-// A clear has one: which token is dead, or how many are dropped.
-fn step_kind(form: Form, h: Hall, tokens: &[u32], book: &mut [u32], e: Entry) -> Reply
-    requires { Known (form_of form) h tokens.now book.old × (first (entry_rules h e) ≡ 0) }
+// The record has passed numbers 1 to 3: its kind's own checks and changes. A clear has a second number: which token is dead, or how
+// many are dropped.
+fn step_kind(form: Form, h: Hall, tokens: &[u32], book: &mut [u32], e: Entry, kind: Kind) -> Reply
+    requires { Known (form_of form) h tokens.now book.old × (first (entry_rules h e) ≡ 0) × (kind_of kind ≡ e.kind) }
     ensures { StepGives (step (form_of form) h tokens.now book.old e) result book.new }
 {
-    if is_clear(e.kind) {
-        return sales::clear(form, h, tokens, book, e);
+    match kind {
+        Kind::JoinCustomer => single(steps::join_customer(h, book, e)),
+        Kind::JoinBench => single(steps::join_bench(h, book, e)),
+        Kind::OpenLine => single(steps::open_line(h, book, e)),
+        Kind::Update => single(steps::update(h, tokens, book, e)),
+        Kind::Stock => single(steps::stock(h, tokens, book, e)),
+        Kind::Sell => single(sales::sell(form, h, tokens, book, e)),
+        Kind::BenchAuthenticates => single(handshake::bench_authenticates(h, book, e)),
+        Kind::DeskAuthenticates => single(handshake::desk_authenticates(h, book, e)),
+        Kind::TopUp => single(steps::top_up(h, book, e)),
+        Kind::Clear | Kind::ClearLiving => sales::clear(form, h, tokens, book, e),
     }
-    alone(step_other(form, h, tokens, book, e))
 }
 
 pub fn step_known(form: Form, h: Hall, tokens: &[u32], book: &mut [u32], e: Entry) -> Reply
     requires { Known (form_of form) h tokens.now book.old }
     ensures { StepGives (step (form_of form) h tokens.now book.old e) result book.new }
 {
-    let refused = tape::judge(h, e);
-    if refused != 0 {
-        return alone(refused);
-    }
-    step_kind(form, h, tokens, book, e)
+    let kind = tape::judge(h, e)?;
+    step_kind(form, h, tokens, book, e, kind)
 }
 
 // Each record of the tape in its turn, and its two numbers.
@@ -106,41 +81,43 @@ pub fn run_known(
     requires { Known (form_of form) h tokens.now book.old × (length tape.now ≡ 8 * length verdicts.old) × (length seconds.old ≡ length verdicts.old) }
     ensures { RunGives (steps (form_of form) h tokens.now book.old (entries (length verdicts.old) tape.now)) 0 book.new verdicts.new seconds.new }
 {
-    let mut i = 0;
-    while i < verdicts.len() {
+    for i in 0..verdicts.len() {
         let e = tape::entry_at(tape, 8 * i);
-        let reply = step_known(form, h, tokens, book, e);
-        verdicts[i] = reply.verdict;
-        seconds[i] = reply.second;
-        i += 1;
+        let (verdict, second) = refusal::numbers(step_known(form, h, tokens, book, e));
+        verdicts[i] = verdict;
+        seconds[i] = second;
     }
 }
 
 // ---- over any book
 
+#[tactic(auto, unfolding(rules::specs::Verdicts::step, rules::specs::Verdicts::table, rules::specs::Verdicts::second, rules::specs::Answers::first, rules::specs::Answers::answer))]
 pub fn step_of(form: Form, h: Hall, tokens: &[u32], book: &mut [u32], e: Entry) -> Reply
     requires { (h.customers ≤ 64) × (h.benches ≤ 64) }
     ensures { StepGives (step (form_of form) h tokens.now book.old e) result book.new }
 {
     if !is_good(form, h, tokens, book) {
-        return alone(1);
+        return single(Err(Refusal::Unsound));
     }
     step_known(form, h, tokens, book, e)
 }
 
-// A byte of each buffer for each 8 of the tape. 8 times the one may not fit, so it's only formed where it does.
+// 8 times n may not fit, and isn't formed.
+fn is_eight_times(long: usize, n: usize) -> bool
+    ensures { result ≡ eqb long (8 * n) }
+{
+    long % 8 == 0 && long / 8 == n
+}
+
+// A byte of each buffer for each 8 of the tape.
+#[tactic(auto, unfolding(rules::specs::Verdicts::one_each))]
 fn is_one_each(tape: &[u8], verdicts: &[u8], seconds: &[u8]) -> bool
     ensures { result ≡ one_each tape.now verdicts.now seconds.now }
 {
-    if tape.len() / 8 < verdicts.len() {
-        return false;
-    }
-    if tape.len() != 8 * verdicts.len() {
-        return false;
-    }
-    seconds.len() == verdicts.len()
+    is_eight_times(tape.len(), verdicts.len()) && seconds.len() == verdicts.len()
 }
 
+#[tactic(auto, using(rules::proofs::Running::each_tape, rules::proofs::Running::each_second), unfolding(rules::specs::Verdicts::run, rules::specs::Answers::first))]
 pub fn run_of(
     form: Form,
     h: Hall,
@@ -149,20 +126,18 @@ pub fn run_of(
     tape: &[u8],
     verdicts: &mut [u8],
     seconds: &mut [u8],
-) -> u8
+) -> Result<(), Refusal>
     requires { (h.customers ≤ 64) × (h.benches ≤ 64) }
-    ensures { RunGives (run (form_of form) h tokens.now book.old tape.now verdicts.old seconds.old) result book.new verdicts.new seconds.new }
+    ensures { RunGives (run (form_of form) h tokens.now book.old tape.now verdicts.old seconds.old) (verdict_of result) book.new verdicts.new seconds.new }
 {
-    let good = is_good(form, h, tokens, book);
-    let whole = is_one_each(tape, verdicts, seconds);
-    if !good {
-        return 1;
+    if !is_good(form, h, tokens, book) {
+        return Err(Refusal::Unsound);
     }
-    if !whole {
-        return 16;
+    if !is_one_each(tape, verdicts, seconds) {
+        return Err(Refusal::CutShort);
     }
     run_known(form, h, tokens, book, tape, verdicts, seconds);
-    0
+    Ok(())
 }
 
 // ---- in the hall in use
@@ -180,8 +155,8 @@ pub fn run(
     tape: &[u8],
     verdicts: &mut [u8],
     seconds: &mut [u8],
-) -> u8
-    ensures { RunGives (run (form_of form) main_hall tokens.now book.old tape.now verdicts.old seconds.old) result book.new verdicts.new seconds.new }
+) -> Result<(), Refusal>
+    ensures { RunGives (run (form_of form) main_hall tokens.now book.old tape.now verdicts.old seconds.old) (verdict_of result) book.new verdicts.new seconds.new }
 {
     run_of(form, rules::MAIN, tokens, book, tape, verdicts, seconds)
 }

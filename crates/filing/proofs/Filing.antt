@@ -1,4 +1,4 @@
--- Words laid as bytes and bytes as words, one more; and the answers of the book's codec.
+-- Words laid as bytes and bytes as words, one more.
 use mathlib.Core.Path.{◌≡◌, refl, sym, ap, ◌∙◌}
 use mathlib.Core.List.{append_assoc, append-nil}
 use Prim.Native.Nat.{◌≤◌, ◌<◌}
@@ -6,16 +6,9 @@ use native.Mathlib.Numerals.{add-one}
 use native.Mathlib.Omega.{arith}
 use lib.ListN.{set, drop_of_length-le}
 use lib.Seq.{take-suc, take_all, drop-cons, take_at, drop_at, drop-drop, set_at, length-take-le}
-use borrow.Author.Tests.{eqb-true}
-use Rattle.rules.specs.declared.Hall.{Hall}
-use Rattle.rules.specs.Lists.{ℕ, zero, suc, ◌+◌, ◌*◌, Bool, true, false, ◌&&◌, eqb, List, [], ◌∷◌, ◌++◌, length, take, drop, get_or}
-use Rattle.rules.specs.Hall.{records}
-use Rattle.rules.specs.Answers.{first, answer, Gives}
-use Rattle.rules.specs.Records.{words}
-use Rattle.rules.specs.Sound.{fits}
-use Rattle.rules.specs.Bytes.{bytes_of, word_of, to_bytes, to_words, lengths}
+use Rattle.rules.specs.Lists.{ℕ, zero, suc, ◌+◌, ◌*◌, List, [], ◌∷◌, ◌++◌, length, take, drop, get_or}
+use Rattle.rules.specs.Bytes.{bytes_of, word_of, to_bytes, to_words}
 use Rattle.rules.proofs.Words.{length_to_bytes, length_to_words}
-use Rattle.rules.proofs.Tests.{and_right}
 
 -- ---- bytes of the first i words, and what stood behind them
 to_bytes_append : (xs ys : List ℕ) → to_bytes (xs ++ ys) ≡ to_bytes xs ++ to_bytes ys
@@ -57,29 +50,16 @@ words_more (suc i) bs =
     ap (λ (l : List ℕ). word_of bs ∷ l)
     (words_more i (drop 4 bs) ∙ ap (λ (x : List ℕ). to_words i (drop 4 bs) ++ (word_of x ∷ [])) (drop-drop (4 * i) 4 bs ∙ ap (λ (n : ℕ). drop n bs) e))
 
-pub words_next : (bs out₀ out : List ℕ) (i : ℕ) → i < length out₀ → out ≡ to_words i bs ++ drop i out₀
-    → set out i (word_of (drop (4 * i) bs)) ≡ to_words (i + 1) bs ++ drop (i + 1) out₀
-words_next bs out₀ out i l e =
+pub words_next : (bs out₀ out : List ℕ) (i w : ℕ) → i < length out₀ → out ≡ to_words i bs ++ drop i out₀ → w ≡ word_of (drop (4 * i) bs)
+    → set out i w ≡ to_words (i + 1) bs ++ drop (i + 1) out₀
+words_next bs out₀ out i w l e f =
     let W : List ℕ = to_words i bs in
-    let w : ℕ = word_of (drop (4 * i) bs) in
     ap (λ (x : List ℕ). set x i w) (e ∙ ap (λ (x : List ℕ). W ++ x) (drop-cons out₀ i 0 l))
     ∙ set_at W (get_or out₀ i 0) (drop (suc i) out₀) w i (length_to_words i bs)
     ∙ sym (append_assoc W (w ∷ []) (drop (suc i) out₀))
+    ∙ ap (λ (v : ℕ). (W ++ (v ∷ [])) ++ drop (suc i) out₀) f
     ∙ ap (λ (x : List ℕ). x ++ drop (suc i) out₀) (sym (words_more i bs))
     ∙ ap (λ (n : ℕ). to_words n bs ++ drop n out₀) (sym (add-one i))
-
--- ---- the answers, of the test t of both lengths; new is what would be laid, old what stands there
-pub whole : (k m n : ℕ) (t : Bool) → t ≡ (eqb m k && eqb n (4 * m)) → t ≡ true → n ≡ 4 * m
-whole k m n t tests y = eqb-true n _ (and_right (eqb m k) _ (sym tests ∙ y))
-
-module _ (h : Hall) (b bs : List ℕ) (t : Bool) (tests : t ≡ (eqb (length b) (words * records h) && eqb (length bs) (4 * length b))) (new old : List ℕ) where
-  pub wrong_length : t ≡ false → Gives (answer (lengths h b bs) new old) 1 old
-  unfolding fits answer first
-  wrong_length n = let e = sym tests ∙ n in record { number = rw e; cells = rw e }
-
-  pub right_length : t ≡ true → (x : List ℕ) → x ≡ new → Gives (answer (lengths h b bs) new old) 0 x
-  unfolding fits answer first
-  right_length y x f = let e = sym tests ∙ y in record { number = rw e; cells = f ∙ rw e }
 
 -- ---- the loops' invariants: what the first i give, and where all are done
 pub record Bytes (ws out₀ out : List ℕ) (i : ℕ) : Type 0 where
@@ -115,3 +95,7 @@ words_all bs out₀ out i s l =
     ∙ ap (λ (x : List ℕ). to_words i bs ++ x) (drop_of_length-le out₀ l)
     ∙ append-nil (to_words i bs)
     ∙ ap (λ (n : ℕ). to_words n bs) e
+
+pub ruleset as_bytes = (bytes_none, bytes_next, bytes_all)
+
+pub ruleset as_words = (words_none, words_all)

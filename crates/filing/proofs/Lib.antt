@@ -1,4 +1,3 @@
 pub mod Filing
-pub mod Lists
 pub mod Read
 pub mod Determined

@@ -6,9 +6,8 @@ use borrow.Author.Tests.{eq-eqb, ne_eqb}
 use Rattle.rules.specs.Lists.{ℕ, ◌+◌, ◌*◌, ◌/◌, ◌%◌, Bool, cond, List, [], ◌∷◌, length}
 use Rattle.rules.specs.declared.Hall.{Hall}
 use Rattle.rules.specs.declared.Entry.{Entry}
-use Rattle.rules.specs.declared.Reply.{Reply}
 use Rattle.rules.specs.Answers.{Answer, Gives}
-use Rattle.rules.specs.Verdicts.{Stepped, StepGives}
+use Rattle.rules.specs.Verdicts.{Stepped, Reply, verdict_in, second_in, StepGives}
 use Rattle.rules.specs.Tape as paper
 use Rattle.rules.specs.Tape.{read_at}
 use Rattle.tape.specs.Reading.{reading, number_of, entry_in, on_paper}
@@ -23,7 +22,7 @@ of_entry answer e e' n cells is says = subst (λ (x : Entry). Gives (answer x) n
 
 -- a step of that record, with its two numbers in one
 pub of_step : (answer : Entry → Stepped) (e e' : Entry) (r : Reply) (n : ℕ) (cells : List ℕ) → e ≡ e'
-    → StepGives (answer e) r cells → (n % 256 ≡ r.verdict) × (n / 256 ≡ r.second) → Packed (answer e') n cells
+    → StepGives (answer e) r cells → (n % 256 ≡ verdict_in r) × (n / 256 ≡ second_in r) → Packed (answer e') n cells
 of_step answer e e' r n cells is says packed =
     subst (λ (x : Entry). Packed (answer x) n cells) is
     (record { low = packed.0 ∙ says.number; high = packed.1 ∙ says.second; cells = says.cells })

@@ -11,7 +11,7 @@ ghost use Rattle.rules.specs.Sound.{sound};
 ghost use Rattle.rules.specs.Bytes.{make_empty, write_book, read_book};
 ghost use Rattle.rules.specs.Tape.{read_at, write_entry};
 ghost use Rattle.rules.specs.Form.{plain};
-ghost use Rattle.rules.specs.Verdicts.{step, run, RunGives};
+ghost use Rattle.rules.specs.Verdicts.{verdict_in, second_in, step, run, RunGives};
 ghost use Rattle.rules.specs.Slips.{slip, slip_sound, open_into};
 ghost use Rattle.rules.specs.Index.{is_index, build_index, places_into, open_indexed};
 ghost use Rattle.tape.specs.Reading.{number_of, entry_in};
@@ -20,18 +20,19 @@ ghost use Rattle.gingerstall.specs.Outer.{Packed, entry_from, fields_of, read_fi
 use book::forms::Form;
 use book::writing;
 use index::{building, checking, finding};
-use rules::{Entry, Reply};
-use tape::{Cursor, Got};
+use rules::refusal::{Refusal, Reply};
+use rules::{Entry, refusal};
+use tape::{Cursor, Unread};
 
 fn entry(kind: u8, bench: u8, customer: u8, zero: u8, amount: u32) -> Entry
     ensures { result ≡ entry_from kind bench customer zero amount }
 {
     Entry {
-        kind: kind,
-        bench: bench,
-        customer: customer,
+        kind,
+        bench,
+        customer,
         byte3: zero,
-        amount: amount,
+        amount,
     }
 }
 
@@ -41,7 +42,7 @@ fn entry(kind: u8, bench: u8, customer: u8, zero: u8, amount: u32) -> Entry
 pub extern "C" fn gs_empty(book: &mut [u32]) -> u8
     ensures { Gives (make_empty main_hall book.old) result book.new }
 {
-    writing::make_empty(book)
+    refusal::verdict(writing::make_empty(book))
 }
 
 // ---- is it sound? 0 for yes, as a verdict would be
@@ -49,7 +50,7 @@ pub extern "C" fn gs_empty(book: &mut [u32]) -> u8
 fn unsound(good: bool) -> u8
     ensures { result ≡ cond good 0 1 }
 {
-    if good { 0 } else { 1 }
+    u8::from(!good)
 }
 
 #[unsafe(no_mangle)]
@@ -69,9 +70,10 @@ pub extern "C" fn gs_slip_sound(tokens: &[u32], book: &[u32]) -> u8
 // ---- a step: the low byte of the answer is its verdict, the high byte its second number
 
 fn packed(reply: Reply) -> u16
-    ensures { (result % 256 ≡ reply.verdict) × (result / 256 ≡ reply.second) }
+    ensures { (result % 256 ≡ verdict_in reply) × (result / 256 ≡ second_in reply) }
 {
-    reply.verdict as u16 + 256 * reply.second as u16
+    let (verdict, second) = refusal::numbers(reply);
+    u16::from_le_bytes([verdict, second])
 }
 
 #[unsafe(no_mangle)]
@@ -118,7 +120,7 @@ pub extern "C" fn gs_run(
 ) -> u8
     ensures { RunGives (run plain main_hall tokens.now book.old tape.now verdicts.old seconds.old) result book.new verdicts.new seconds.new }
 {
-    desk::run(Form::Plain, tokens, book, tape, verdicts, seconds)
+    refusal::verdict(desk::run(Form::Plain, tokens, book, tape, verdicts, seconds))
 }
 
 #[unsafe(no_mangle)]
@@ -131,14 +133,14 @@ pub extern "C" fn gs_slip_run(
 ) -> u8
     ensures { RunGives (run slip main_hall tokens.now book.old tape.now verdicts.old seconds.old) result book.new verdicts.new seconds.new }
 {
-    desk::run(Form::Slip, tokens, book, tape, verdicts, seconds)
+    refusal::verdict(desk::run(Form::Slip, tokens, book, tape, verdicts, seconds))
 }
 
 #[unsafe(no_mangle)]
 pub extern "C" fn gs_slip_open(tokens: &[u32], slips: &[u32], plain: &mut [u32]) -> u8
     ensures { Gives (open_into main_hall tokens.now slips.now plain.old) result plain.new }
 {
-    slips::open_into(tokens, slips, plain)
+    refusal::verdict(slips::open_into(tokens, slips, plain))
 }
 
 // ---- an index beside the list, and what is done with one
@@ -147,7 +149,7 @@ pub extern "C" fn gs_slip_open(tokens: &[u32], slips: &[u32], plain: &mut [u32])
 pub extern "C" fn gs_index_build(tokens: &[u32], index: &mut [u16]) -> u8
     ensures { Gives (build_index tokens.now index.old) result index.new }
 {
-    building::build(tokens, index)
+    refusal::verdict(building::build(tokens, index))
 }
 
 #[unsafe(no_mangle)]
@@ -166,7 +168,7 @@ pub extern "C" fn gs_index_places(
 ) -> u8
     ensures { Gives (places_into tokens.now index.now numbers.now places.old) result places.new }
 {
-    finding::places(tokens, index, numbers, places)
+    refusal::verdict(finding::places(tokens, index, numbers, places))
 }
 
 #[unsafe(no_mangle)]
@@ -178,7 +180,7 @@ pub extern "C" fn gs_slip_open_indexed(
 ) -> u8
     ensures { Gives (open_indexed main_hall tokens.now index.now slips.now plain.old) result plain.new }
 {
-    slips::open_indexed(tokens, index, slips, plain)
+    refusal::verdict(slips::open_indexed(tokens, index, slips, plain))
 }
 
 // ---- a book on file
@@ -187,35 +189,36 @@ pub extern "C" fn gs_slip_open_indexed(
 pub extern "C" fn gs_book_to_bytes(book: &[u32], bytes: &mut [u8]) -> u8
     ensures { Gives (write_book main_hall book.now bytes.old) result bytes.new }
 {
-    filing::write_book(book, bytes)
+    refusal::verdict(filing::write_book(book, bytes))
 }
 
 #[unsafe(no_mangle)]
 pub extern "C" fn gs_book_from_bytes(bytes: &[u8], book: &mut [u32]) -> u8
     ensures { Gives (read_book main_hall bytes.now book.old) result book.new }
 {
-    filing::read_book(bytes, book)
+    refusal::verdict(filing::read_book(bytes, book))
 }
 
 // ---- the tape, record by record
 
-fn number_of(got: Got) -> u8
+fn number_of(got: Result<Entry, Unread>) -> u8
     ensures { result ≡ number_of got }
 {
     match got {
-        Got::Good(_) => 0,
-        Got::Bad(number, _) => number,
-        Got::Cut => 16,
+        Ok(_) => 0,
+        Err(unread) => Refusal::from(unread) as u8,
     }
 }
 
-fn entry_in(got: Got) -> Entry
+fn entry_in(got: Result<Entry, Unread>) -> Entry
     ensures { result ≡ entry_in got }
 {
     match got {
-        Got::Good(e) => e,
-        Got::Bad(_, e) => e,
-        Got::Cut => entry(0, 0, 0, 0, 0),
+        Ok(e) => e,
+        Err(unread) => match unread {
+            Unread::Bad(_, e) => e,
+            Unread::Cut => entry(0, 0, 0, 0, 0),
+        },
     }
 }
 
@@ -223,10 +226,10 @@ fn put_fields(fields: &mut [u32], e: Entry)
     requires { length fields.old ≡ 5 }
     ensures { fields.new ≡ fields_of e }
 {
-    fields[0] = e.kind as u32;
-    fields[1] = e.bench as u32;
-    fields[2] = e.customer as u32;
-    fields[3] = e.byte3 as u32;
+    fields[0] = u32::from(e.kind);
+    fields[1] = u32::from(e.bench);
+    fields[2] = u32::from(e.customer);
+    fields[3] = u32::from(e.byte3);
     fields[4] = e.amount;
 }
 
@@ -238,20 +241,16 @@ pub extern "C" fn gs_read(tape: &[u8], at: usize, fields: &mut [u32]) -> u8
     if fields.len() != 5 {
         return 16;
     }
-    let cursor = Cursor { at: at };
-    let reading = cursor.read(tape);
-    let got = reading.got;
-    put_fields(fields, entry_in(got));
-    number_of(got)
+    let reading = Cursor { at }.read(tape);
+    put_fields(fields, entry_in(reading.got));
+    number_of(reading.got)
 }
 
 #[unsafe(no_mangle)]
 pub extern "C" fn gs_read_next(tape: &[u8], at: usize) -> usize
     ensures { result ≡ (read_at main_hall tape.now at).next }
 {
-    let cursor = Cursor { at: at };
-    let reading = cursor.read(tape);
-    reading.next.at
+    Cursor { at }.read(tape).next.at
 }
 
 #[unsafe(no_mangle)]
@@ -265,5 +264,5 @@ pub extern "C" fn gs_write(
 ) -> u8
     ensures { Gives (write_entry main_hall (entry_from kind bench customer zero amount) part.old) result part.new }
 {
-    tape::write(entry(kind, bench, customer, zero, amount), part)
+    refusal::verdict(tape::write(entry(kind, bench, customer, zero, amount), part))
 }

@@ -1,2 +1,2 @@
-pub mod Usable
 pub mod Storing
+pub mod Every

@@ -1,4 +1,3 @@
-pub mod Usable
 pub mod Places
 pub mod Walkable
 pub mod Putting

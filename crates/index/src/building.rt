@@ -1,10 +1,11 @@
 // The index of a list, built.
 ghost use Rattle.std.specs.Prelude.{◌≡◌, ◌<◌, ◌≤◌, length};
-ghost use Rattle.rules.specs.Answers.{Gives};
+ghost use Rattle.rules.specs.Answers.{Gives, verdict_of};
 ghost use Rattle.rules.specs.Index.{blank, build_index};
 ghost use Rattle.index.specs.Putting.{Putting, Put, PutAll};
 
 use super::walking;
+use rules::refusal::Refusal;
 
 // Puts token i in, unless it stands before.
 fn put_in(list: &[u32], index: &mut [u16], i: usize) -> bool
@@ -24,41 +25,25 @@ fn put_all(list: &[u32], index: &mut [u16]) -> bool
     requires { (length list.now ≤ 4096) × (index.old ≡ blank) }
     ensures { PutAll list.now result index.new }
 {
-    let mut i = 0;
-    while i < list.len() {
+    for i in 0..list.len() {
         if !put_in(list, index, i) {
             return false;
         }
-        i += 1;
     }
     true
 }
 
-fn copy(from: &[u16], to: &mut [u16])
-    requires { length from.now ≡ length to.old }
-    ensures { to.new ≡ from.now }
-{
-    let mut i = 0;
-    while i < from.len() {
-        to[i] = from[i];
-        i += 1;
-    }
-}
-
 // Built aside and copied: a repeat shows only on the way, and a refusal leaves the lent index.
-pub fn build(list: &[u32], index: &mut [u16]) -> u8
-    ensures { Gives (build_index list.now index.old) result index.new }
+pub fn build(list: &[u32], index: &mut [u16]) -> Result<(), Refusal>
+    ensures { Gives (build_index list.now index.old) (verdict_of result) index.new }
 {
-    if index.len() != 8192 {
-        return 1;
-    }
-    if 4096 < list.len() {
-        return 1;
+    if index.len() != 8192 || 4096 < list.len() {
+        return Err(Refusal::Unsound);
     }
     let mut made = [0u16; 8192];
     if !put_all(list, &mut made) {
-        return 1;
+        return Err(Refusal::Unsound);
     }
-    copy(&made, index);
-    0
+    index.copy_from_slice(&made);
+    Ok(())
 }

@@ -4,21 +4,17 @@ ghost use Rattle.rules.specs.Lists.{occ};
 ghost use Rattle.rules.specs.Index.{ring, is_index};
 ghost use Rattle.ring.specs.Way.{earlier, way_of};
 
-use super::{hashing, walking};
-use std::num;
+use super::hashing;
 
-// How many cells are empty. The count is no wider than an entry, so that eight are counted at a time.
+// How many cells are empty. The count is no wider than an entry, so that eight are counted at a time: one as wide as a place made the check
+// of a short list's index take over five times as long.
 fn empties(index: &[u16]) -> u16
     requires { length index.now ≡ ring }
     ensures { result ≡ occ 0 index.now }
 {
     let mut n: u16 = 0;
-    let mut i = 0;
-    while i < index.len() {
-        if index[i] == 0 {
-            n += 1;
-        }
-        i += 1;
+    for &e in index {
+        n += u16::from(e == 0);
     }
     n
 }
@@ -29,10 +25,7 @@ fn passes(list: &[u32], i: usize, q: usize) -> bool
     requires { i < length list.now }
     ensures { result ≡ earlier list.now i ((q + 1) % 2 ^ 64) }
 {
-    if i <= q {
-        return false;
-    }
-    list[q] != list[i]
+    q < i && list[q] != list[i]
 }
 
 // Whether the way from the start of token i leads over earlier entries to its own. Some cell is empty, and no way passes it, so the turns
@@ -41,13 +34,13 @@ fn has_way(list: &[u32], index: &[u16], i: usize) -> bool
     requires { (i < length list.now) × (length index.now ≡ ring) × (0 < occ 0 index.now) }
     ensures { result ≡ way_of list.now index.now i }
 {
-    let mut p = hashing::start(list[i]);
+    let mut n = hashing::start(list[i]);
     loop {
-        let q = num::wrapping_sub_usize(walking::wide(index[p]), 1);
+        let q = usize::from(index[n % 8192]).wrapping_sub(1);
         if !passes(list, i, q) {
             return q == i;
         }
-        p = (p + 1) % 8192;
+        n += 1;
     }
 }
 
@@ -55,21 +48,11 @@ fn has_way(list: &[u32], index: &[u16], i: usize) -> bool
 pub fn is_index(list: &[u32], index: &[u16]) -> bool
     ensures { result ≡ is_index list.now index.now }
 {
-    if index.len() != 8192 {
+    if index.len() != 8192 || 4096 < list.len() {
         return false;
     }
-    if 4096 < list.len() {
+    if usize::from(empties(index)) != 8192 - list.len() {
         return false;
     }
-    if walking::wide(empties(index)) != 8192 - list.len() {
-        return false;
-    }
-    let mut i = 0;
-    while i < list.len() {
-        if !has_way(list, index, i) {
-            return false;
-        }
-        i += 1;
-    }
-    true
+    (0..list.len()).all(|i| has_way(list, index, i))
 }

@@ -8,7 +8,8 @@ use Rattle.rules.specs.declared.Entry.{Entry}
 use Rattle.rules.specs.Lists.{ℕ, ◌*◌, Bool, true, false, eqb, List, [], ◌∷◌, length, occ, is_in}
 use Rattle.rules.specs.Hall.{Place, Desk, Carnet, View, BenchView, Till, Line, number, records}
 use Rattle.rules.specs.Records.{words, in_use, amount, handshake, held, made, with_amount, with_handshake}
-use Rattle.rules.specs.Tape.{JoinBench, Stock, BenchAuthenticates, DeskAuthenticates, Clear, ClearLiving, kind_of, clears, uses_bench}
+use Rattle.rules.specs.Tape.{kind_of, clears, uses_bench}
+use Rattle.rules.specs.declared.kind.Kind.TheVariants.{JoinBench, Stock, BenchAuthenticates, DeskAuthenticates, Clear, ClearLiving}
 use Rattle.rules.specs.Form.{Form, plain}
 use Rattle.rules.specs.Steps.{joining, dealing, updating, stocking, selling, authenticating, settling, clearing, topping_up, changes, effect, the_bench_view}
 use Rattle.rules.specs.Verdicts.{verdict, step}

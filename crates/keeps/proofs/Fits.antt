@@ -8,7 +8,8 @@ use Rattle.rules.specs.declared.Entry.{Entry}
 use Rattle.rules.specs.Lists.{ℕ, ◌*◌, true, List, [], ◌++◌, length, take, drop, occ, without}
 use Rattle.rules.specs.Hall.{most_held, Place, Desk, Carnet, View, BenchView, Till, Line, number, records}
 use Rattle.rules.specs.Records.{words, held, made, with_amount, record_at}
-use Rattle.rules.specs.Tape.{Sell, TopUp, kind_of, clears, uses_bench, uses_customer}
+use Rattle.rules.specs.Tape.{kind_of, clears, uses_bench, uses_customer}
+use Rattle.rules.specs.declared.kind.Kind.TheVariants.{Sell, TopUp}
 use Rattle.rules.specs.Form.{Form, plain}
 use Rattle.rules.specs.Steps.{fresh, joining, dealing, updating, stocking, sold_line, selling, authenticating, settling, clearing, topping_up, changes, effect, the_carnet, the_view, the_line, living}
 use Rattle.rules.specs.Verdicts.{verdict, step}

@@ -11,7 +11,8 @@ use Rattle.rules.specs.Lists.{ℕ, zero, suc, Bool, true, false, cond, not, ◌&
 use Rattle.rules.specs.Hall.{BenchView, number}
 use Rattle.rules.specs.Records.{handshake}
 use Rattle.rules.specs.Sound.{empty_book}
-use Rattle.rules.specs.Tape.{BenchAuthenticates, DeskAuthenticates, kind_of, clears, entries}
+use Rattle.rules.specs.Tape.{kind_of, clears, entries}
+use Rattle.rules.specs.declared.kind.Kind.TheVariants.{BenchAuthenticates, DeskAuthenticates}
 use Rattle.rules.specs.Form.{Form, plain}
 use Rattle.rules.specs.Verdicts.{verdict, step, Ran, steps, run}
 use Rattle.rules.proofs.Tests.{never, same, and_left, and_right, and_false, true_and}

@@ -8,7 +8,8 @@ use Rattle.rules.specs.declared.Entry.{Entry}
 use Rattle.rules.specs.Lists.{ℕ, ◌+◌, ◌-◌, true, eqb, List, occ}
 use Rattle.rules.specs.Hall.{Place, Desk, Carnet, View, BenchView, Till}
 use Rattle.rules.specs.Records.{amount, count, held, made, with_amount}
-use Rattle.rules.specs.Tape.{Update, Stock, kind_of, uses_bench, uses_customer}
+use Rattle.rules.specs.Tape.{kind_of, uses_bench, uses_customer}
+use Rattle.rules.specs.declared.kind.Kind.TheVariants.{Update, Stock}
 use Rattle.rules.specs.Form.{Form}
 use Rattle.rules.specs.Steps.{dealt, fresh, joining, dealing, updating, stocking, selling, authenticating, settling, clearing, topping_up, changes, the_carnet, the_view, the_bench_view, the_till, asked}
 use Rattle.rules.specs.Verdicts.{verdict, step}

@@ -9,7 +9,8 @@ use Rattle.rules.specs.declared.Entry.{Entry}
 use Rattle.rules.specs.Lists.{ℕ, ◌+◌, ◌*◌, true, List}
 use Rattle.rules.specs.Hall.{Place, View, BenchView, Till, Line, number}
 use Rattle.rules.specs.Records.{words, amount, with_word}
-use Rattle.rules.specs.Tape.{TopUp, kind_of, uses_bench}
+use Rattle.rules.specs.Tape.{kind_of, uses_bench}
+use Rattle.rules.specs.declared.kind.Kind.TheVariants.{TopUp}
 use Rattle.rules.specs.Form.{Form}
 use Rattle.rules.specs.Steps.{put_all, the_view, topping_up, changes, effect}
 use Rattle.rules.specs.Verdicts.{verdict, step}

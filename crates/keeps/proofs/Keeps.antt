@@ -7,7 +7,8 @@ use Rattle.rules.specs.declared.Entry.{Entry}
 use Rattle.rules.specs.Lists.{ℕ, Bool, true, ◌||◌, eqb, List, [], ◌∷◌, ◌++◌, length, occ, ◌+◌}
 use Rattle.rules.specs.Hall.{Carnet, View, Till, BenchView, Line, number}
 use Rattle.rules.specs.Records.{in_use, record_at}
-use Rattle.rules.specs.Tape.{JoinCustomer, JoinBench, OpenLine, Sell, kind_of, clears, uses_bench, uses_customer, entries}
+use Rattle.rules.specs.Tape.{kind_of, clears, uses_bench, uses_customer, entries}
+use Rattle.rules.specs.declared.kind.Kind.TheVariants.{JoinCustomer, JoinBench, OpenLine, Sell}
 use Rattle.rules.specs.Form.{Form, plain}
 use Rattle.rules.specs.Steps.{dealt, clearing, changes, effect}
 use Rattle.rules.specs.Sound.{sound}

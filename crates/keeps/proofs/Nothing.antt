@@ -10,7 +10,8 @@ use Rattle.rules.specs.declared.Entry.{Entry}
 use Rattle.rules.specs.Lists.{ℕ, ◌+◌, ◌*◌, min, true, ◌&&◌, ◌||◌, leb, eqb, List, [], ◌∷◌, ◌++◌, length, take, drop, occ, without, among}
 use Rattle.rules.specs.Hall.{Place, Carnet, View, BenchView, Line, number, records}
 use Rattle.rules.specs.Records.{words, in_use, amount, count, sales, held, filled, made, with_word, with_amount, with_handshake, record_at, put}
-use Rattle.rules.specs.Tape.{Sell, TopUp, kind_of, clears, uses_bench, uses_customer}
+use Rattle.rules.specs.Tape.{kind_of, clears, uses_bench, uses_customer}
+use Rattle.rules.specs.declared.kind.Kind.TheVariants.{Sell, TopUp}
 use Rattle.rules.specs.Form.{Form, plain}
 use Rattle.rules.specs.Steps.{Change, ◌≔◌, put_all, the_carnet, the_view, the_bench_view, the_line, sold_line, selling, living, settling, clearing, topping_up, changes}
 use Rattle.rules.specs.Verdicts.{verdict, step}

@@ -9,7 +9,8 @@ use Rattle.rules.specs.declared.Entry.{Entry}
 use Rattle.rules.specs.Lists.{ℕ, Bool, true, false, cond, List, [], ◌∷◌, ◌++◌, length, take, occ, is_in}
 use Rattle.rules.specs.Hall.{Line, number}
 use Rattle.rules.specs.Records.{count, held, made}
-use Rattle.rules.specs.Tape.{Sell, kind_of}
+use Rattle.rules.specs.Tape.{kind_of}
+use Rattle.rules.specs.declared.kind.Kind.TheVariants.{Sell}
 use Rattle.rules.specs.Form.{Form}
 use Rattle.rules.specs.Steps.{joining, dealing, updating, stocking, sold_line, selling, authenticating, settling, clearing, topping_up, changes, the_carnet, the_line}
 use Rattle.rules.specs.Verdicts.{verdict, step, steps}

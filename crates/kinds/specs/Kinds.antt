@@ -7,7 +7,8 @@ use Rattle.rules.specs.Hall.{most_tokens, most_held, Carnet, View, BenchView, Ti
 use Rattle.rules.specs.Answers.{Rule, first, Answer, answer}
 use Rattle.rules.specs.Records.{words, in_use, amount, count, sales, handshake, cells, made, record_at}
 use Rattle.rules.specs.Sound.{total, most_total}
-use Rattle.rules.specs.Tape.{Clear, is, entry_rules}
+use Rattle.rules.specs.Tape.{is, entry_rules}
+use Rattle.rules.specs.declared.kind.Kind.TheVariants.{Clear}
 use Rattle.rules.specs.Form.{Form}
 use Rattle.rules.specs.Steps.{Change, ◌≔◌, put_all, dealt, left, joining, updating, stocking, selling, authenticating, clearing, topping_up, the_carnet, the_view, the_bench_view, the_till, the_line, waiting}
 use Rattle.rules.specs.Verdicts.{Stepped, beside, dead_at, second}

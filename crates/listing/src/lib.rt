@@ -23,11 +23,9 @@ fn put_steps(out: &mut [u8], place: u64, tape: &[u8], verdicts: &[u8]) -> usize
     ensures { (result ≡ length (step_lines place (entries (length verdicts.now) tape.now) verdicts.now)) × (out.new ≡ written 0 (step_lines place (entries (length verdicts.now) tape.now) verdicts.now) out.old) × (result ≤ 63 * length verdicts.now) }
 {
     let mut end = 0;
-    let mut i = 0;
-    while i < verdicts.len() {
+    for (i, &verdict) in verdicts.iter().enumerate() {
         let e = tape::entry_at(tape, 8 * i);
-        end = text::put_step(out, end, place + i as u64, e.kind, verdicts[i]);
-        i += 1;
+        end = text::put_step(out, end, place + i as u64, e.kind, verdict);
     }
     end
 }
@@ -66,10 +64,8 @@ pub fn walk_part(
 {
     let n = part.len() / 8;
     let whole = 8 * n;
-    let mut space = [0u8; 1024];
-    let verdicts: &mut [u8] = &mut space;
-    let mut untold = [0u8; 1024];
-    let seconds: &mut [u8] = &mut untold;
+    let mut verdicts = [0u8; 1024];
+    let mut seconds = [0u8; 1024];
     let end = walk_records(
         form,
         h,

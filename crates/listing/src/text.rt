@@ -36,8 +36,8 @@ pub fn put_step(out: &mut [u8], at: usize, place: u64, kind: u8, verdict: u8) ->
     ensures { (result ≡ at + length (step_line place kind verdict)) × (out.new ≡ written at (step_line place kind verdict) out.old) }
 {
     let a = put_digits(out, at, 20, place);
-    let b = put_number(out, a, kind as u64);
-    let c = put_number(out, b, verdict as u64);
+    let b = put_number(out, a, u64::from(kind));
+    let c = put_number(out, b, u64::from(verdict));
     out[c] = b'\n';
     c + 1
 }
@@ -72,9 +72,7 @@ pub fn put_cut(out: &mut [u8], at: usize, bytes: usize) -> usize
     if bytes % 8 == 0 {
         return at;
     }
-    out[at] = b'c';
-    out[at + 1] = b'u';
-    out[at + 2] = b't';
-    out[at + 3] = b'\n';
-    at + 4
+    let end = at + 4;
+    out[at..end].copy_from_slice(b"cut\n");
+    end
 }

@@ -4,11 +4,10 @@ use mathlib.Core.Path.{◌≡◌, refl, sym, ap, ◌∙◌}
 use Rattle.rules.specs.Lists.{ℕ, true, List, ◌∷◌, length}
 use Rattle.rules.specs.Hall.{main_hall}
 use Rattle.rules.specs.declared.Entry.{Entry}
-use Rattle.rules.specs.declared.Reply.{Reply}
 use Rattle.rules.specs.Bytes.{make_empty}
 use Rattle.rules.specs.Sound.{good_list, empty_book}
 use Rattle.rules.specs.Agree.{Agree}
-use Rattle.rules.specs.Verdicts.{step, StepGives, steps, RunGives, run}
+use Rattle.rules.specs.Verdicts.{Reply, verdict_in, second_in, step, StepGives, steps, RunGives, run}
 use Rattle.rules.proofs.Answering.{answer_granted}
 use Rattle.book.specs.Forms.{form_of}
 use Rattle.book.specs.declared.forms.Form.{Form}
@@ -62,8 +61,8 @@ all_stepped (more {r = r} c later) =
     rw (sym one.cells, sym one.number, sym one.second)
     (record {
       answer = refl;
-      verdicts = ap (λ (vs : List ℕ). r.verdict ∷ vs) rest.verdicts;
-      seconds = ap (λ (ss : List ℕ). r.second ∷ ss) rest.seconds;
+      verdicts = ap (λ (vs : List ℕ). verdict_in r ∷ vs) rest.verdicts;
+      seconds = ap (λ (ss : List ℕ). second_in r ∷ ss) rest.seconds;
       book = rest.book;
     })
 

@@ -1,21 +1,22 @@
 -- Demand 2's round trips of a tape record, over the values of the calls.
-use mathlib.Core.Path.{◌≡◌, refl, sym, ap, ◌∙◌}
+use mathlib.Core.Path.{◌≡◌, sym, ap, ◌∙◌}
 use mathlib.Core.Logic.{⊎_elim}
 use Prim.Native.Nat.{◌<◌}
-use native.Mathlib.Omega.{arith}
 use borrow.Author.Tests.{eq-eqb, ne_eqb}
 use Rattle.rules.specs.declared.Hall.{Hall}
 use Rattle.rules.specs.declared.Entry.{Entry}
 use Rattle.rules.specs.Lists.{ℕ, List, length, take, drop}
+use Rattle.rules.specs.Answers as rules
 use Rattle.rules.specs.Answers.{first, answer, Gives}
 use Rattle.rules.specs.Tape as paper
 use Rattle.rules.specs.Tape.{entry_rules, read_at, write_entry}
 use Rattle.rules.proofs.Tests.{same}
-use Rattle.rules.proofs.Answering.{answer_refused, refused}
+use Rattle.rules.proofs.Answering.{answer_refused, refused, some_number}
 use Rattle.rules.proofs.Words.{Below, byte_top, word_top}
 use Rattle.rules.proofs.Writing.{read_whole, read_good, written_read, read_written}
-use Rattle.tape.specs.Reading.{got_of, reading, number_of, entry_in, on_paper}
-use Rattle.tape.specs.declared.Got.TheVariants.{Good, Bad, Cut}
+use Rattle.tape.specs.Reading.{reading, refusal_of, number_of, entry_in, on_paper}
+use Rattle.std.specs.Prelude.{Ok, Err}
+use Rattle.tape.specs.declared.Unread.{Unread}
 use Rattle.tape.specs.declared.Reading.{Reading}
 use Rattle.tape.proofs.Reader.{nothing_lost}
 use Rattle.tape.proofs.Writer.{write_granted, write_cut}
@@ -66,18 +67,10 @@ module _ (h : Hall) (tape : List ℕ) (at : ℕ) (out : List ℕ) (r : Reading) 
   stops n is some = refused _ _ out n (is ∙ sym (rw (ne_eqb number 0 (λ z. some (is ∙ z))))) some
 
   -- a record that is refused; no whole record
-  pub eight_refused : (n : ℕ) (e : Entry) → r.got ≡ Bad n e → Gives (eight_back h tape at out) n out
-  unfolding reading got_of
-  eight_refused n e got =
-      let is : n ≡ number = sym (ap number_of got) ∙ number_is in
-      stops n is (λ z.
-      let good : r.got ≡ Good (read_at h tape at).entry = ap (λ (x : Reading). x.got) there ∙ rw (sym is ∙ z) in
-      let no : ◌≡◌ {A = ℕ} 0 1 = cc in omega (arith, no))
+  pub eight_refused : (unread : Unread) → r.got ≡ Err unread → Gives (eight_back h tape at out) (rules.number_of (refusal_of unread)) out
+  eight_refused unread got = stops (rules.number_of (refusal_of unread)) (sym (ap number_of got) ∙ number_is) (some_number (refusal_of unread))
 
-  pub eight_cut : r.got ≡ Cut → Gives (eight_back h tape at out) 16 out
-  eight_cut got = stops 16 (sym (ap number_of got) ∙ number_is) (λ z. omega arith)
-
-  pub eight_returns : Below byte_top tape → (e : Entry) (n : ℕ) (out' : List ℕ) → r.got ≡ Good e → Gives (write_entry h e out) n out' → Gives (eight_back h tape at out) n out'
+  pub eight_returns : Below byte_top tape → (e : Entry) (n : ℕ) (out' : List ℕ) → r.got ≡ Ok e → Gives (write_entry h e out) n out' → Gives (eight_back h tape at out) n out'
   unfolding eight_back answer first
   eight_returns low e n out' got wrote =
       let z : number ≡ 0 = sym number_is ∙ ap number_of got in
@@ -87,7 +80,7 @@ module _ (h : Hall) (tape : List ℕ) (at : ℕ) (out : List ℕ) (r : Reading) 
       let back : write_entry h e out ≡ record { number = 0; cells = take 8 (drop at tape) } = rw is at (read_written h tape out at z low eight) in
       rw (eq-eqb number 0 z, eq-eqb (length out) 8 eight) (rw back at wrote))
       (λ (cut : length out ≡ 8 → ⊥).
-      let short : Gives (write_entry h e out) 16 out = write_cut h e out 0 (sym (fine e z is)) refl cut in
+      let short : Gives (write_entry h e out) 16 out = write_cut h e out (sym (fine e z is)) cut in
       rw (eq-eqb number 0 z, ne_eqb (length out) 8 cut)
       (record { number = wrote.number ∙ sym short.number; cells = wrote.cells ∙ sym short.cells }))
       (same (length out) 8)

@@ -4,13 +4,13 @@ use mathlib.Core.Path.{◌≡◌, sym, ap, ◌∙◌}
 use Rattle.rules.specs.Lists.{ℕ, List, ◌∷◌, ◌++◌, length, get_or}
 use Rattle.rules.specs.Hall.{main_hall}
 use Rattle.rules.specs.declared.Entry.{Entry}
-use Rattle.rules.specs.declared.Reply.{Reply}
 use Rattle.rules.specs.Records.{sales, cells, held}
 use Rattle.rules.specs.Sound.{empty_book}
-use Rattle.rules.specs.Tape.{ClearLiving, kind_of, entries}
+use Rattle.rules.specs.Tape.{kind_of, entries}
+use Rattle.rules.specs.declared.kind.Kind.TheVariants.{ClearLiving}
 use Rattle.rules.specs.Slips.{slip}
 use Rattle.rules.specs.Steps.{the_view, the_line}
-use Rattle.rules.specs.Verdicts.{step, Ran, steps}
+use Rattle.rules.specs.Verdicts.{Reply, verdict_in, second_in, step, Ran, steps}
 use Rattle.rules.proofs.Running.{steps_joined}
 use Rattle.rules.proofs.Stepping.{step_verdict}
 use Rattle.book.specs.declared.forms.Form.TheVariants.{Slip}
@@ -31,8 +31,8 @@ module _ {ts b b' : List ℕ} {es : List Entry} {vs ss : List ℕ} (made : Empti
   drops = rw from_empty (drops_whole main_hall ts es)
 
   -- one step more
-  pub step_drops : (e : Entry) (r : Reply) (b'' : List ℕ) → StepCall Slip ts b' e r b'' → r.verdict ≡ 0 → e.kind ≡ kind_of ClearLiving
-      → r.second ≡ dead_slips (held (the_view main_hall b' e)) (sales (the_line main_hall b' e)) (cells (the_line main_hall b' e))
+  pub step_drops : (e : Entry) (r : Reply) (b'' : List ℕ) → StepCall Slip ts b' e r b'' → verdict_in r ≡ 0 → e.kind ≡ kind_of ClearLiving
+      → second_in r ≡ dead_slips (held (the_view main_hall b' e)) (sales (the_line main_hall b' e)) (cells (the_line main_hall b' e))
   step_drops e r b'' call z k =
       let g = stepped call in
       g.second ∙ drops e (sym (step_verdict slip main_hall ts b' e) ∙ sym g.number ∙ z) k

@@ -1,10 +1,11 @@
 -- Demand 3 over a year: two lent books made empty and worked on alike, the one as a plain book, the other as a slip book, by runs and
 -- steps in any order.
-use mathlib.Core.Path.{◌≡◌, sym, ap, ◌∙◌}
+use Rattle.rules.proofs.Determined.{same_reply}
+use Rattle.rules.specs.Verdicts.{Reply}
+use mathlib.Core.Path.{◌≡◌, sym, ◌∙◌}
 use Rattle.rules.specs.Lists.{ℕ, true, List, length}
 use Rattle.rules.specs.Hall.{main_hall}
 use Rattle.rules.specs.declared.Entry.{Entry}
-use Rattle.rules.specs.declared.Reply.{Reply}
 use Rattle.rules.specs.Sound.{good_list}
 use Rattle.rules.specs.Agree.{Agree}
 use Rattle.book.specs.declared.forms.Form.TheVariants.{Plain, Slip}
@@ -13,9 +14,6 @@ use Rattle.outcomes.proofs.InStep.{InStep, empty_in_step, WholeRun, whole_run, O
 use Rattle.outcomes.proofs.Demand3.{emptied, ran_from, stepped}
 
 -- two replies of the same two numbers
-same_reply : {r q : Reply} → r.verdict ≡ q.verdict → r.second ≡ q.second → r ≡ q
-same_reply {r} {q} v x = ap (λ (n : ℕ). record { verdict = n; second = r.second }) v ∙ ap (λ (n : ℕ). record { verdict = q.verdict; second = n }) x
-
 -- two books made empty are sound and agree
 made_alike : (ts p s : List ℕ) → good_list ts ≡ true → Emptied p → Emptied s → InStep main_hall ts p s
 made_alike ts p s good ep es = rw (emptied p ep, emptied s es) (empty_in_step main_hall ts good)

@@ -4,7 +4,8 @@ use Rattle.std.specs.Prelude.{◌≡◌, ◌+◌, ◌/◌, ◌%◌, ◌∷◌, �
 use Rattle.rules.specs.Lists.{ℕ, List, [], length, take}
 use Rattle.rules.specs.Hall.{main_hall, most_tokens}
 use Rattle.rules.specs.declared.Entry.{Entry}
-use Rattle.rules.specs.declared.Reply.{Reply}
+use Rattle.rules.specs.Answers.{verdict_of}
+use Rattle.rules.specs.Verdicts.{Reply, verdict_in, second_in}
 use Rattle.rules.specs.Tape.{entries}
 use Rattle.book.specs.declared.forms.Form.{Form}
 use Rattle.book.specs.declared.forms.Form.TheVariants.{Plain, Slip}
@@ -22,7 +23,7 @@ pub record Emptied (b : List ℕ) : Type 1 where
   pub result : _
   pub exit : _
   pub learnt : make_empty.Learnt lifetimes args result exit
-  pub granted : result ≡ 0
+  pub granted : verdict_of result ≡ 0
   pub book_after : exit.0.now ≡ b
 
 -- `desk::run` in the form f, over the book b, a tape and two buffers: it answered n and left b', vs' and ss'
@@ -38,7 +39,7 @@ pub record RunCall (f : Form) (ts b tape vs ss : List ℕ) (n : ℕ) (b' vs' ss'
   pub tape_lent : args.1.1.1.0.now ≡ tape
   pub verdicts : args.1.1.1.1.0.now ≡ vs
   pub seconds : args.1.1.1.1.1.0.now ≡ ss
-  pub answered : result ≡ n
+  pub answered : verdict_of result ≡ n
   pub book_after : exit.1.1.0.now ≡ b'
   pub verdicts_after : exit.1.1.1.1.0.now ≡ vs'
   pub seconds_after : exit.1.1.1.1.1.0.now ≡ ss'
@@ -61,7 +62,7 @@ pub record StepCall (f : Form) (ts b : List ℕ) (e : Entry) (r : Reply) (b' : L
 pub data StepCalls (f : Form) (ts : List ℕ) : List ℕ → List Entry → List ℕ → List ℕ → List ℕ → Type 1 where
   done : {b : List ℕ} → StepCalls f ts b [] [] [] b
   more : {b next b' : List ℕ} {e : Entry} {es : List Entry} {r : Reply} {vs ss : List ℕ}
-      → StepCall f ts b e r next → StepCalls f ts next es vs ss b' → StepCalls f ts b (e ∷ es) (r.verdict ∷ vs) (r.second ∷ ss) b'
+      → StepCall f ts b e r next → StepCalls f ts next es vs ss b' → StepCalls f ts b (e ∷ es) (verdict_in r ∷ vs) (second_in r ∷ ss) b'
 
 -- any number of granted runs and of steps, in any order, each over the book that the one before left: all their records, all their
 -- verdicts, all their second numbers, and the last book
@@ -70,7 +71,7 @@ pub data Worked (f : Form) (ts b : List ℕ) : List Entry → List ℕ → List 
   ◌run-by◌ : {next b' tape v x v' x' vs ss : List ℕ} {es : List Entry} → Worked f ts b es vs ss next → RunCall f ts next tape v x 0 b' v' x'
       → Worked f ts b (es ++ entries (length v) tape) (vs ++ v') (ss ++ x') b'
   ◌stepped-by◌ : {next b' vs ss : List ℕ} {es : List Entry} {e : Entry} {r : Reply} → Worked f ts b es vs ss next → StepCall f ts next e r b'
-      → Worked f ts b (es ++ e ∷ []) (vs ++ r.verdict ∷ []) (ss ++ r.second ∷ []) b'
+      → Worked f ts b (es ++ e ∷ []) (vs ++ verdict_in r ∷ []) (ss ++ second_in r ∷ []) b'
 
 infixl 20 ◌run-by◌
 infixl 20 ◌stepped-by◌
@@ -102,7 +103,7 @@ pub record ListCall (list : List ℕ) (n : ℕ) (ts : List ℕ) : Type 1 where
   pub learnt : read_list.Learnt lifetimes args result exit
   pub bytes : args.0.now ≡ list
   pub room : length args.1.0.now ≡ most_tokens
-  pub answered : result ≡ n
+  pub answered : verdict_of result ≡ n
   pub list_after : take (length list / 4) exit.1.0.now ≡ ts
 
 -- `listing::walk_part` over a part of the tape, whose first record has a place in it: it left the lines in front of the lent bytes, and the book b'
@@ -135,6 +136,6 @@ pub record AccountsCall (b text : List ℕ) : Type 1 where
   pub result : _
   pub exit : _
   pub learnt : put_accounts.Learnt lifetimes args result exit
-  pub hall : args.1.0 ≡ main_hall
-  pub book : args.1.1.0.now ≡ b
+  pub hall : args.1.0.hall ≡ main_hall
+  pub book : args.1.0.pages.now ≡ b
   pub text_after : take result exit.0.now ≡ text

@@ -4,7 +4,7 @@
 
 #![tactic(auto)]
 
-ghost use Rattle.rules.specs.Answers.{Gives};
+ghost use Rattle.rules.specs.Answers.{Gives, verdict_of};
 ghost use Rattle.rules.specs.Hall.{main_hall};
 ghost use Rattle.rules.specs.Bytes.{write_book, read_book};
 ghost use Rattle.rules.specs.Tape.{write_entry};
@@ -12,27 +12,22 @@ ghost use Rattle.tape.specs.Reading.{reading};
 ghost use Rattle.outcomes.specs.Back.{book_back, bytes_back, record_back, eight_back, Back, RecordBack};
 
 use rules::Entry;
-use tape::{Cursor, Got, Reading};
+use rules::refusal::Refusal;
+use tape::{Cursor, Reading};
 
 // A book, written out and read back.
-pub fn book_back(book: &[u32], bytes: &mut [u8], out: &mut [u32]) -> u8
-    ensures { Back (write_book main_hall book.now bytes.old).cells (book_back main_hall book.now bytes.old out.old) bytes.new result out.new }
+pub fn book_back(book: &[u32], bytes: &mut [u8], out: &mut [u32]) -> Result<(), Refusal>
+    ensures { Back (write_book main_hall book.now bytes.old).cells (book_back main_hall book.now bytes.old out.old) bytes.new (verdict_of result) out.new }
 {
-    let unwritten = filing::write_book(book, bytes);
-    if unwritten != 0 {
-        return unwritten;
-    }
+    filing::write_book(book, bytes)?;
     filing::read_book(bytes, out)
 }
 
 // A book's bytes, read and written back.
-pub fn bytes_back(bytes: &[u8], book: &mut [u32], out: &mut [u8]) -> u8
-    ensures { Back (read_book main_hall bytes.now book.old).cells (bytes_back main_hall bytes.now book.old out.old) book.new result out.new }
+pub fn bytes_back(bytes: &[u8], book: &mut [u32], out: &mut [u8]) -> Result<(), Refusal>
+    ensures { Back (read_book main_hall bytes.now book.old).cells (bytes_back main_hall bytes.now book.old out.old) book.new (verdict_of result) out.new }
 {
-    let unread = filing::read_book(bytes, book);
-    if unread != 0 {
-        return unread;
-    }
+    filing::read_book(bytes, book)?;
     filing::write_book(book, out)
 }
 
@@ -40,21 +35,15 @@ pub fn bytes_back(bytes: &[u8], book: &mut [u32], out: &mut [u8]) -> u8
 pub fn record_back(e: Entry, out: &mut [u8]) -> Reading
     ensures { RecordBack (write_entry main_hall e out.old).cells (reading (record_back main_hall e out.old)) out.new result }
 {
-    tape::write(e, out);
-    let start = Cursor { at: 0 };
-    start.read(out)
+    // a record that is refused isn't written, and what stands there is read
+    let _ = tape::write(e, out);
+    Cursor { at: 0 }.read(out)
 }
 
 // The eight bytes of a tape record, read and written back.
-pub fn eight_back(tape: &[u8], at: usize, out: &mut [u8]) -> u8
-    ensures { Gives (eight_back main_hall tape.now at out.old) result out.new }
+pub fn eight_back(tape: &[u8], at: usize, out: &mut [u8]) -> Result<(), Refusal>
+    ensures { Gives (eight_back main_hall tape.now at out.old) (verdict_of result) out.new }
 {
-    let cursor = Cursor { at };
-    let reading = cursor.read(tape);
-    let got = reading.got;
-    match got {
-        Got::Good(e) => tape::write(e, out),
-        Got::Bad(number, _) => number,
-        Got::Cut => 16,
-    }
+    let e = Cursor { at }.read(tape).got?;
+    tape::write(e, out)
 }

@@ -5,8 +5,11 @@ use Prim.Native.Nat.{◌≤◌, ◌<◌}
 use native.Mathlib.Omega.{arith}
 use borrow.Author.Tests.{eqb-true, eq-eqb, ne_eqb, ltb-true, lt-ltb}
 use Rattle.rules.specs.Lists.{ℕ, suc, ◌+◌, Bool, true, false, cond, ◌&&◌, ltb, eqb, List, [], ◌∷◌, ◌++◌, occ, is_in, all_different, first_of, place_of}
+use Rattle.std.specs.Prelude.{Result, Ok, Err, IsErrAnd}
+use Rattle.rules.specs.declared.refusal.Refusal.{Refusal}
+use Rattle.rules.specs.declared.refusal.Refusal.TheVariants.{Unsound, Malformed, NotInHall, InAlready, NotJoined, NotOpen, AboveBound, OverBudget, ViewFull, ListSpent, CarnetShort, LineFull, NoToken, Unlike, DeadToken, CutShort, NoHandshake}
 use Rattle.rules.proofs.Tests.{parts, never, and_left, and_right, same}
-use Rattle.rules.specs.Answers.{Rule, ◌⇐◌, first, answer, Gives}
+use Rattle.rules.specs.Answers.{Rule, ◌⇐◌, first, answer, Gives, number_of, verdict_of}
 
 module _ (rules : List Rule) (new old : List ℕ) where
   pub answer_granted : (answer rules new old).number ≡ 0 → (answer rules new old).cells ≡ new
@@ -149,3 +152,46 @@ first_foremost ((m ⇐ false) ∷ rules) w =
           );
       granted = λ none. rest.granted (λ n. sym (skipped m rules w n) ∙ none n);
     }
+
+-- ---- in the code's types
+pub some_number : (why : Refusal) → number_of why ≡ 0 → ⊥
+some_number Unsound e = omega arith
+some_number Malformed e = omega arith
+some_number NotInHall e = omega arith
+some_number InAlready e = omega arith
+some_number NotJoined e = omega arith
+some_number NotOpen e = omega arith
+some_number AboveBound e = omega arith
+some_number OverBudget e = omega arith
+some_number ViewFull e = omega arith
+some_number ListSpent e = omega arith
+some_number CarnetShort e = omega arith
+some_number LineFull e = omega arith
+some_number NoToken e = omega arith
+some_number Unlike e = omega arith
+some_number DeadToken e = omega arith
+some_number CutShort e = omega arith
+some_number NoHandshake e = omega arith
+
+-- what a `?` hands on is the refusal that it met
+pub handed_on : {A : Type 0} (r : Result A Refusal) (why : Refusal) → IsErrAnd r (λ e. e ≡ why) → verdict_of r ≡ number_of why
+handed_on (Ok x) why p = absurd p
+handed_on (Err e) why p = ap (λ (x : Refusal). number_of x) p
+
+-- and so it isn't 0
+pub stopped : {A B : Type 0} (x : Result A Refusal) (why : Refusal) → x ≡ Err why → (r : Result B Refusal) → IsErrAnd r (λ e. e ≡ why)
+    → (verdict_of r ≡ verdict_of x) × (verdict_of x ≡ 0 → ⊥)
+stopped {A} x why was r p =
+    let there : verdict_of x ≡ number_of why = ap (λ (y : Result A Refusal). verdict_of y) was in
+    (handed_on r why p ∙ sym there, λ z. some_number why (sym there ∙ z))
+
+-- what a promise says of a function that hands on a check's refusal, or goes on where the check lets it pass
+module _ (rules : List Rule) (new old : List ℕ) {A : Type 0} (x : Result A Refusal) (number : verdict_of x ≡ first rules) where
+  pub refused_by : (why : Refusal) → x ≡ Err why → {B : Type 0} (r : Result B Refusal) → IsErrAnd r (λ e. e ≡ why) → Gives (answer rules new old) (verdict_of r) old
+  refused_by why was r p =
+      let told : verdict_of r ≡ verdict_of x = handed_on r why p ∙ sym (ap (λ (y : Result A Refusal). verdict_of y) was) in
+      refused rules new old (verdict_of r) (told ∙ number) (λ z. some_number why (sym (handed_on r why p) ∙ z))
+
+  pub granted_by : (done : A) → x ≡ Ok done → (after : List ℕ) → after ≡ new → Gives (answer rules new old) 0 after
+  granted_by done was after e =
+      granted rules new old 0 (sym (ap (λ (y : Result A Refusal). verdict_of y) was) ∙ number) after refl e

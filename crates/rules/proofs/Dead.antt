@@ -11,13 +11,21 @@ use Rattle.rules.specs.Records.{held}
 use Rattle.rules.specs.Tape.{Clear, ClearLiving, kind_of, is, clears, in_hall, entry_rules}
 use Rattle.rules.specs.Form.{Form}
 use Rattle.rules.specs.Steps.{the_view, living, waiting}
-use Rattle.rules.specs.Answers.{Answer, Gives}
-use Rattle.rules.specs.Verdicts.{dead_at, dropped, beside, StepGives, table, verdict, second, step}
+use Rattle.std.specs.Prelude.{Ok, Err, IsErrAnd}
+use Rattle.rules.specs.declared.refusal.Refusal.{Refusal}
+use Rattle.rules.specs.declared.refusal.Refused.{Refused}
+use Rattle.rules.specs.Answers.{Answer, Gives, number_of, alone}
+use Rattle.rules.specs.Verdicts.{dead_at, dropped, beside, Reply, verdict_in, second_in, StepGives, table, verdict, second, step}
 use Rattle.rules.proofs.Tests.{never, and_left, and_right, true_and, and_no, or_left, or_right, fails}
 use Rattle.rules.proofs.Answering.{numbers, test_of, first_holds}
 use Rattle.rules.proofs.Stepping.{step_verdict, verdict_foremost}
 use Rattle.rules.proofs.Searching.{Absent, first_absent_lem, split_length}
 use Rattle.rules.proofs.ByKind.{by_clear}
+
+-- a refusal that a `?` hands on goes alone
+pub handed_alone : (r : Reply) (why : Refusal) → IsErrAnd r (λ e. e ≡ alone why) → (verdict_in r ≡ number_of why) × (second_in r ≡ 0)
+handed_alone (Ok second) why p = absurd p
+handed_alone (Err refused) why p = (ap (λ (x : Refused). number_of x.why) p, ap (λ (x : Refused). x.second) p)
 
 module _ (f : Form) (h : Hall) (ts b : List ℕ) (e : Entry) where
   -- the verdict v of the step is one that drops tokens
@@ -96,27 +104,28 @@ module _ (f : Form) (h : Hall) (ts b : List ℕ) (e : Entry) where
       }
 
   -- ---- what a promise says of a step, from an answer that its verdict is right for
-  module _ {a : Answer} {n : ℕ} {after : List ℕ} (gives : Gives a n after) where
-    abbrev Told : ℕ → Type 0
-    Told p = StepGives (beside (second f h ts b e) a) (record { verdict = n; second = p }) after
+  module _ {a : Answer} (r : Reply) {after : List ℕ} (gives : Gives a (verdict_in r) after) where
+    abbrev Told : Type 0
+    Told = StepGives (beside (second f h ts b e) a) r after
 
-    told : (p : ℕ) → p ≡ second f h ts b e n → Told p
-    told p q = record { number = gives.number; second = q ∙ ap (second f h ts b e) gives.number; cells = gives.cells }
+    told : second_in r ≡ second f h ts b e (verdict_in r) → Told
+    told q = record { number = gives.number; second = q ∙ ap (second f h ts b e) gives.number; cells = gives.cells }
 
     -- refused, but not for a dead token
-    pub told_none : (n ≡ 0 → ⊥) → (n ≡ 15 → ⊥) → Told 0
-    told_none r z = told 0 (sym (second_none n z (ap (λ (t : Bool). t && is e ClearLiving) (ne_eqb n 0 r))))
+    pub told_none : second_in r ≡ 0 → (verdict_in r ≡ 0 → ⊥) → (verdict_in r ≡ 15 → ⊥) → Told
+    told_none q n z =
+        told (q ∙ sym (second_none (verdict_in r) z (ap (λ (t : Bool). t && is e ClearLiving) (ne_eqb (verdict_in r) 0 n))))
 
-    pub told_dead : n ≡ 15 → (p : ℕ) → p ≡ dead_at f h ts b e → Told p
-    told_dead z p q = told p (q ∙ sym (second_dead n z))
+    pub told_dead : verdict_in r ≡ 15 → second_in r ≡ dead_at f h ts b e → Told
+    told_dead z q = told (q ∙ sym (second_dead (verdict_in r) z))
 
     -- granted, a clear of either kind: of a whole line none is dropped
-    pub told_cleared : n ≡ 0 → clears e.kind ≡ true → (p : ℕ) → p ≡ dropped f h ts b e → (e.kind ≡ kind_of Clear → p ≡ 0) → Told p
-    told_cleared z c p q whole =
-        told p
-        (by_clear (λ k. e.kind ≡ k → p ≡ second f h ts b e n)
+    pub told_cleared : verdict_in r ≡ 0 → clears e.kind ≡ true → second_in r ≡ dropped f h ts b e → (e.kind ≡ kind_of Clear → second_in r ≡ 0) → Told
+    told_cleared z c q whole =
+        told
+        (by_clear (λ k. e.kind ≡ k → second_in r ≡ second f h ts b e (verdict_in r))
         (λ k.
         whole k
-        ∙ sym (second_none n (λ v. omega arith) (ap (λ (i : ℕ). eqb n 0 && eqb i (kind_of ClearLiving)) k ∙ and_no (eqb n 0))))
-        (λ k. q ∙ sym (second_drops n (true_and _ _ (eq-eqb _ _ z) (eq-eqb _ _ k))))
+        ∙ sym (second_none (verdict_in r) (λ v. omega arith) (ap (λ (i : ℕ). eqb (verdict_in r) 0 && eqb i (kind_of ClearLiving)) k ∙ and_no (eqb (verdict_in r) 0))))
+        (λ k. q ∙ sym (second_drops (verdict_in r) (true_and _ _ (eq-eqb _ _ z) (eq-eqb _ _ k))))
         e.kind c refl)

@@ -1,10 +1,15 @@
 -- The tape: records of 8 bytes, the kinds and what they use, what is refused of a record by itself, reader and writer.
 use Rattle.std.specs.Prelude.{◌+◌, ◌&&◌, ◌||◌, ◌∷◌, ◌++◌}
-use Rattle.rules.specs.Lists.{ℕ, zero, suc, Bool, cond, not, leb, ltb, eqb, List, [], length, drop, get_or, is_in}
+use Rattle.rules.specs.Lists.{ℕ, zero, suc, Bool, false, cond, not, leb, ltb, eqb, List, [], length, drop, get_or, is_in}
 use Rattle.rules.specs.Hall.{Hall}
 use Rattle.rules.specs.Answers.{Rule, ◌⇐◌, first, Answer, answer}
 use Rattle.rules.specs.Bytes.{bytes_of, word_of}
+use Rattle.std.specs.Prelude.{◌≡◌, Result, MatchResult}
+use Rattle.rules.specs.declared.refusal.Refusal.{Refusal}
+use Rattle.rules.specs.declared.refusal.Refusal.TheVariants.{Malformed}
 pub use Rattle.rules.specs.declared.Entry.{Entry}
+pub use Rattle.rules.specs.declared.kind.Kind.{Kind}
+pub use Rattle.rules.specs.declared.kind.Kind.TheVariants.{JoinCustomer, JoinBench, OpenLine, Update, Stock, Sell, BenchAuthenticates, DeskAuthenticates, Clear, TopUp, ClearLiving}
 
 -- ---- a record's five fields in its bytes
 unfoldable pub entry_of : List ℕ → Entry
@@ -21,9 +26,6 @@ unfoldable pub eight_bytes : Entry → List ℕ
 eight_bytes e = e.kind ∷ e.bench ∷ e.customer ∷ e.byte3 ∷ bytes_of e.amount
 
 -- ---- the kinds
-pub data Kind : Type 0 where
-  JoinCustomer JoinBench OpenLine Update Stock Sell BenchAuthenticates DeskAuthenticates Clear TopUp ClearLiving : Kind
-
 abbrev pub kind_of : Kind → ℕ
 kind_of JoinCustomer = 1
 kind_of JoinBench = 2
@@ -40,6 +42,10 @@ kind_of ClearLiving = 11
 -- they are numbered from 1 to this
 abbrev pub last_kind : ℕ
 last_kind = 11
+
+-- the kind that a number names, or a refusal where it names none
+abbrev pub OfNumber : ℕ → Result Kind Refusal → Type 0
+OfNumber n r = MatchResult r (λ k. kind_of k ≡ n) (λ why. (why ≡ Malformed) × (leb 1 n && leb n last_kind ≡ false))
 
 abbrev pub is : Entry → Kind → Bool
 is e k = eqb e.kind (kind_of k)

@@ -1,14 +1,14 @@
 -- Verdict numbers: the table, whose order decides; a step, and the second number that it answers; a run over a whole tape.
-use Rattle.std.specs.Prelude.{◌≡◌, ◌+◌, ◌*◌, ◌&&◌, ◌||◌, ◌∷◌, ◌++◌}
+use Rattle.std.specs.Prelude.{◌≡◌, ◌+◌, ◌*◌, ◌&&◌, ◌||◌, ◌∷◌, ◌++◌, Result, Ok, Err}
 use Rattle.rules.specs.Lists.{ℕ, Bool, cond, not, leb, ltb, eqb, List, [], length, get_or, without, first_absent}
 use Rattle.rules.specs.Hall.{Hall, most_held, most_sales, most_budget}
-use Rattle.rules.specs.Answers.{Rule, ◌⇐◌, first, Answer, answer}
+use Rattle.rules.specs.Answers.{Rule, ◌⇐◌, first, Answer, answer, number_of}
 use Rattle.rules.specs.Records.{in_use, amount, count, sales, handshake, cells, held, record_at}
 use Rattle.rules.specs.Sound.{total, most_total}
 use Rattle.rules.specs.Tape.{Entry, JoinCustomer, JoinBench, OpenLine, Update, Stock, Sell, BenchAuthenticates, DeskAuthenticates, Clear, TopUp, ClearLiving, kind_of, is, clears, uses_bench, uses_customer, entry_rules, entries}
 use Rattle.rules.specs.Form.{Form}
 use Rattle.rules.specs.Steps.{left, the_carnet, the_view, the_bench_view, the_till, the_line, asked, waiting, effect}
-use Rattle.rules.specs.declared.Reply.{Reply}
+use Rattle.rules.specs.declared.refusal.Refused.{Refused}
 
 abbrev pub used : List ℕ → Bool
 used r = eqb (in_use r) 1
@@ -26,10 +26,22 @@ pub record Stepped : Type 0 where
 abbrev pub beside : (ℕ → ℕ) → Answer → Stepped
 beside second a = record { number = a.number; second = second a.number; cells = a.cells }
 
+-- the two numbers of a reply
+abbrev pub Reply : Type 0
+Reply = Result ℕ Refused
+
+abbrev pub verdict_in : Reply → ℕ
+verdict_in (Ok second) = 0
+verdict_in (Err refused) = number_of refused.why
+
+abbrev pub second_in : Reply → ℕ
+second_in (Ok second) = second
+second_in (Err refused) = refused.second
+
 -- what a promise says of a step: both of its numbers, and the lent book afterwards
 pub record StepGives (s : Stepped) (reply : Reply) (after : List ℕ) : Type 0 where
-  pub number : reply.verdict ≡ s.number
-  pub second : reply.second ≡ s.second
+  pub number : verdict_in reply ≡ s.number
+  pub second : second_in reply ≡ s.second
   pub cells : after ≡ s.cells
 
 module _ (f : Form) (h : Hall) (ts b : List ℕ) (e : Entry) where

@@ -1,9 +1,13 @@
-// What the definitions of specs/ and the code have in common: three kinds of value, and the hall in use.
+// What the definitions of specs/ and the code have in common: a hall, the one in use, a record of the tape, its kind, and what is
+// answered.
 
 #![tactic(auto)]
 
+pub mod kind;
+pub mod refusal;
+
 // A hall, by the number of its customers and of its benches.
-#[derive(Clone, Copy)]
+#[derive(Clone, Copy, PartialEq, Eq, Debug)]
 pub struct Hall {
     pub customers: usize,
     pub benches: usize,
@@ -15,19 +19,13 @@ pub const MAIN: Hall = Hall {
     benches: 8,
 };
 
-// A record of the tape, all five fields. `byte3` is zero in every record that isn't refused.
-#[derive(Clone, Copy)]
+// A record of the tape, all five fields. `byte3` is zero in every record that isn't refused; `kind` is a number still, since one that is
+// refused may name no kind.
+#[derive(Clone, Copy, PartialEq, Eq, Debug)]
 pub struct Entry {
     pub kind: u8,
     pub bench: u8,
     pub customer: u8,
     pub byte3: u8,
     pub amount: u32,
-}
-
-// What a step answers: its verdict, and a second number.
-#[derive(Clone, Copy)]
-pub struct Reply {
-    pub verdict: u8,
-    pub second: u8,
 }

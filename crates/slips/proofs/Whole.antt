@@ -245,9 +245,9 @@ module _ (h : Hall) (ts b : List ℕ) (long : length b ≡ words * records h) wh
   pub slip_clauses : Chain (slip_sound h ts b) (accounts_good h at) (good_list ts) (own_good h ts d b) (once_good h ts b)
   slip_clauses = record { is = alike _ _ sound_whole whole_sound }
 
-pub not_fits : (h : Hall) (ts b : List ℕ) → (length b ≡ words * records h → ⊥) → false ≡ slip_sound h ts b
-unfolding slip_sound fits
-not_fits h ts b ne = rw (ne_eqb (length b) (words * records h) ne)
+pub unfit : (h : Hall) (ts b : List ℕ) → fits h b ≡ false → slip_sound h ts b ≡ false
+unfolding slip_sound
+unfit h ts b e = rw e
 
 -- ---- opened into a lent plain book
 module _ (h : Hall) (ts b out : List ℕ) where
@@ -279,6 +279,3 @@ module _ (h : Hall) (ts xs b out : List ℕ) where
   pub index_opens : is_index ts xs ≡ true → {n : ℕ} {after : List ℕ} → Gives (open_into h ts b out) n after → Gives (open_indexed h ts xs b out) n after
   unfolding open_indexed open_into
   index_opens e g = rw e g
-
-pub slips_long : (h : Hall) (ts b : List ℕ) → slip_sound h ts b ≡ true → length b ≡ words * records h
-slips_long h ts b e = (slip_sound_facts h ts b e).long

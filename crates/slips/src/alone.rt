@@ -1,113 +1,76 @@
 // No token twice in a slip book's carnets and lines: each slip is tested by itself, without opening the book. No carnet
 // holds one of its tokens, it alone begins at its first token, and no slip begins at a later one.
-ghost use Rattle.std.specs.Prelude.{◌≡◌, ◌+◌, ◌*◌, ◌≤◌, min, length};
-ghost use Rattle.rules.specs.Lists.{range, every, occ};
+ghost use Rattle.std.specs.Prelude.{◌≡◌, ◌*◌, ◌≤◌, ◌<◌, min, length};
+ghost use Rattle.rules.specs.Lists.{every, occ};
 ghost use Rattle.rules.specs.Hall.{most_sales, carnets, lines, records};
-ghost use Rattle.rules.specs.Records.{words, sales, cells, record_at};
+ghost use Rattle.rules.specs.Records.{sales, cells, record_at};
 ghost use Rattle.rules.specs.Slips.{open_slip};
 ghost use Rattle.sound.specs.Together.{held_in, apart};
 ghost use Rattle.slips.specs.Alone.{firsts, begun_in, alone, all_alone};
 
 use super::opening;
-use rules::Hall;
+use book::halls::HallBook;
 use sound::groups;
-use tokens::searching;
 
-// How many of k slips begin with the token.
-fn begun_here(k: usize, pairs: &[u32], token: u32) -> usize
-    requires { 2 * k ≤ length pairs.now }
-    ensures { (result ≡ occ token (firsts k pairs.now)) × (result ≤ k) }
+// A line's slips, as far as it has room for them: how many, and their pairs.
+fn slips_at<'a>(book: HallBook<'a>, k: usize) -> (usize, &'a [u32])
+    requires { k < records book.hall }
+    ensures { (result.0 ≡ min (sales (record_at k book.entry.pages.now)) most_sales) × (result.1.now ≡ cells (record_at k book.entry.pages.now)) × (2 * result.0 ≤ length result.1.now) }
 {
-    let mut hits = 0;
-    let mut i = 0;
-    while i < k {
-        if pairs[2 * i] == token {
-            hits += 1;
-        }
-        i += 1;
-    }
-    hits
+    let rec = book.record(k);
+    let n = (book::sales(rec) as usize).min(16);
+    (n, book::cells(rec))
 }
 
-// How many slips of n lines from line a on begin with the token.
-fn begun_in(book: &[u32], a: usize, n: usize, token: u32) -> usize
-    requires { (words * (a + n) ≤ length book.now) × (n ≤ 4096) }
-    ensures { result ≡ occ token (begun_in book.now (range a n)) }
+// How many slips of a line begin with the token.
+fn begun_here(book: HallBook, k: usize, token: u32) -> usize
+    requires { k < records book.hall }
+    ensures { result ≡ occ token (firsts (min (sales (record_at k book.entry.pages.now)) most_sales) (cells (record_at k book.entry.pages.now))) }
 {
-    let mut hits = 0;
-    let mut i = 0;
-    while i < n {
-        let rec = book::record_at(book, a + i);
-        let k = searching::smaller(book::sales(rec) as usize, 16);
-        hits += begun_here(k, book::cells(rec), token);
-        i += 1;
-    }
-    hits
+    let (n, pairs) = slips_at(book, k);
+    // `filter` and `count` took a tenth more to check a full book.
+    (0..n).map(|i| usize::from(pairs[2 * i] == token)).sum()
 }
 
-// No slip of these lines begins with one of the tokens.
-fn are_none_begun(book: &[u32], a: usize, n: usize, tokens: &[u32]) -> bool
-    requires { (words * (a + n) ≤ length book.now) × (n ≤ 4096) }
-    ensures { result ≡ apart tokens.now (begun_in book.now (range a n)) }
+// How many slips of the lines begin with the token.
+fn begun_in(book: HallBook, token: u32) -> usize
+    ensures { result ≡ occ token (begun_in book.entry.pages.now (lines book.entry.hall)) }
 {
-    let mut i = 0;
-    while i < tokens.len() {
-        if 0 < begun_in(book, a, n, tokens[i]) {
-            return false;
-        }
-        i += 1;
-    }
-    true
+    (book.line(0, 0)..book.records())
+        .map(|k| begun_here(book, k, token))
+        .sum()
+}
+
+// No slip of the lines begins with one of the tokens.
+fn are_none_begun(book: HallBook, tokens: &[u32]) -> bool
+    ensures { result ≡ apart tokens.now (begun_in book.entry.pages.now (lines book.entry.hall)) }
+{
+    tokens.iter().all(|&t| begun_in(book, t) == 0)
 }
 
 // The slip of n tokens that begins with the token.
-fn is_alone(h: Hall, list: &[u32], book: &[u32], token: u32, n: usize) -> bool
-    requires { (h.customers ≤ 64) × (h.benches ≤ 64) × (length book.now ≡ words * records h) }
-    ensures { result ≡ alone (held_in book.now (carnets h)) (begun_in book.now (lines h)) token (open_slip list.now token n) }
+fn is_alone(list: &[u32], book: HallBook, token: u32, n: usize) -> bool
+    ensures { result ≡ alone (held_in book.entry.pages.now (carnets book.entry.hall)) (begun_in book.entry.pages.now (lines book.entry.hall)) token (open_slip list.now token n) }
 {
-    let lines = book::line(h, 0, 0);
-    let all = h.customers * h.benches;
     let run = opening::slip_part(list, token, n);
-    if !groups::are_absent(book, book::carnet(h, 0), h.customers, run) {
-        return false;
-    }
-    if begun_in(book, lines, all, token) != 1 {
-        return false;
-    }
-    let m = searching::smaller(1, run.len());
-    are_none_begun(book, lines, all, &run[m..])
+    let m = run.len().min(1);
+    groups::are_absent(book.pages, book.carnet(0), book.hall.customers, run)
+        && begun_in(book, token) == 1
+        && are_none_begun(book, &run[m..])
 }
 
-// Each of k slips.
-fn are_alone(h: Hall, list: &[u32], book: &[u32], k: usize, pairs: &[u32]) -> bool
-    requires { (h.customers ≤ 64) × (h.benches ≤ 64) × (length book.now ≡ words * records h) × (2 * k ≤ length pairs.now) }
-    ensures { result ≡ all_alone list.now (held_in book.now (carnets h)) (begun_in book.now (lines h)) k pairs.now }
+// Each slip of a line.
+fn are_alone(list: &[u32], book: HallBook, k: usize) -> bool
+    requires { k < records book.hall }
+    ensures { result ≡ all_alone list.now (held_in book.entry.pages.now (carnets book.entry.hall)) (begun_in book.entry.pages.now (lines book.entry.hall)) (min (sales (record_at k book.entry.pages.now)) most_sales) (cells (record_at k book.entry.pages.now)) }
 {
-    let mut i = 0;
-    while i < k {
-        if !is_alone(h, list, book, pairs[2 * i], pairs[2 * i + 1] as usize) {
-            return false;
-        }
-        i += 1;
-    }
-    true
+    let (n, pairs) = slips_at(book, k);
+    (0..n).all(|i| is_alone(list, book, pairs[2 * i], pairs[2 * i + 1] as usize))
 }
 
 // Each slip of each line.
-pub fn are_lines_alone(h: Hall, list: &[u32], book: &[u32]) -> bool
-    requires { (h.customers ≤ 64) × (h.benches ≤ 64) × (length book.now ≡ words * records h) }
-    ensures { result ≡ every (λ k. all_alone list.now (held_in book.now (carnets h)) (begun_in book.now (lines h)) (min (sales (record_at k book.now)) most_sales) (cells (record_at k book.now))) (lines h) }
+pub fn are_lines_alone(list: &[u32], book: HallBook) -> bool
+    ensures { result ≡ every (λ k. all_alone list.now (held_in book.entry.pages.now (carnets book.entry.hall)) (begun_in book.entry.pages.now (lines book.entry.hall)) (min (sales (record_at k book.entry.pages.now)) most_sales) (cells (record_at k book.entry.pages.now))) (lines book.entry.hall) }
 {
-    let lines = book::line(h, 0, 0);
-    let n = h.customers * h.benches;
-    let mut i = 0;
-    while i < n {
-        let rec = book::record_at(book, lines + i);
-        let k = searching::smaller(book::sales(rec) as usize, 16);
-        if !are_alone(h, list, book, k, book::cells(rec)) {
-            return false;
-        }
-        i += 1;
-    }
-    true
+    (book.line(0, 0)..book.records()).all(|k| are_alone(list, book, k))
 }

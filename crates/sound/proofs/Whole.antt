@@ -1,7 +1,7 @@
 -- The clauses put together: who is in use with whom, carnets with lines, and the whole test.
 use mathlib.Core.Path.{◌≡◌, refl, ap, ◌∙◌}
 use native.Mathlib.Nat.{add-zero}
-use borrow.Author.Tests.{eq-eqb, ne_eqb}
+use borrow.Author.Tests.{eq-eqb}
 use Rattle.rules.specs.declared.Hall.{Hall}
 use Rattle.rules.specs.Lists.{ℕ, ◌*◌, min, Bool, true, false, ◌&&◌, leb, List, ◌++◌, length, range, every, all_different, joined}
 use Rattle.rules.specs.Hall.{Place, Carnet, View, BenchView, Till, Line, number, records, carnets, lines, spendable, views}
@@ -29,11 +29,9 @@ module _ (h : Hall) (b : List ℕ) where
   pub joins_are : every (λ m. backed b (number h (Line m 0)) (number h (Carnet 0)) (used (Till m)) h.customers) (range 0 h.benches) ≡ joins
   joins_are = simp add-zero
 
-  pub parties_are : {carnets views tills benches : ℕ}
-      → carnets ≡ number h (Carnet 0) → views ≡ number h (View 0) → tills ≡ number h (Till 0) → benches ≡ number h (BenchView 0)
-      → Chain (parties_good h used) true (paired b carnets views h.customers) (paired b tills benches h.benches) joins
+  pub parties_are : parties_good h used ≡ (paired b (number h (Carnet 0)) (number h (View 0)) h.customers && paired b (number h (Till 0)) (number h (BenchView 0)) h.benches) && joins
   unfolding parties_good
-  parties_are p q r s = record { is = rw (p, q, r, s) (simp add-zero) }
+  parties_are = simp add-zero
 
 -- ---- carnets and lines, each group by itself and the one against the other
 abbrev held_by : (ℕ → List ℕ) → List ℕ → List ℕ
@@ -48,8 +46,8 @@ module _ (h : Hall) (at : ℕ → List ℕ) where
   all = h.customers * h.benches
 
   pub spendable_is : {own first : ℕ} → own ≡ number h (Carnet 0) → first ≡ number h (Line 0 0)
-      → Chain (once_in (spendable h) at) true (once_in (range own h.customers) at) (apart (held_by at (range own h.customers)) (held_by at (range first all))) (once_in (range first all) at)
-  spendable_is p q = record { is = rw (p, q) (once_both at (carnets h) (lines h)) }
+      → once_in (spendable h) at ≡ (once_in (range own h.customers) at && apart (held_by at (range own h.customers)) (held_by at (range first all))) && once_in (range first all) at
+  spendable_is p q = rw (p, q) (once_both at (carnets h) (lines h))
 
 -- ---- the whole test, the clauses in the order in which they are made
 shuffle : (g e p s v m : Bool) → ((((g && e) && p) && s) && v) && m ≡ (((p && m) && g) && e) && (v && s)
@@ -61,10 +59,6 @@ shuffle true false p s v m = simp and_no
 shuffle false e p s v m = simp and_no
 
 module _ (h : Hall) (ts b : List ℕ) where
-  pub not_fits : (length b ≡ words * records h → ⊥) → false ≡ sound h ts b
-  unfolding sound fits
-  not_fits ne = rw (ne_eqb (length b) (words * records h) ne)
-
   module _ (long : length b ≡ words * records h) where
     abbrev at : ℕ → List ℕ
     at k = record_at k b

@@ -14,16 +14,7 @@ pub fn are_paired(book: &[u32], a: usize, c: usize, n: usize) -> bool
     requires { (words * (a + n) ≤ length book.now) × (words * (c + n) ≤ length book.now) }
     ensures { result ≡ paired book.now a c n }
 {
-    let mut i = 0;
-    while i < n {
-        let one = book::word_of(book, a + i, 0);
-        let other = book::word_of(book, c + i, 0);
-        if one != other {
-            return false;
-        }
-        i += 1;
-    }
-    true
+    (0..n).all(|i| book::word_of(book, a + i, 0) == book::word_of(book, c + i, 0))
 }
 
 // The i-th of n records from a on is in use only if the i-th from c on is, and one more.
@@ -31,17 +22,7 @@ pub fn are_backed(book: &[u32], a: usize, c: usize, used: u32, n: usize) -> bool
     requires { (words * (a + n) ≤ length book.now) × (words * (c + n) ≤ length book.now) }
     ensures { result ≡ backed book.now a c used n }
 {
-    let mut i = 0;
-    while i < n {
-        let one = book::word_of(book, a + i, 0) as usize;
-        let other = book::word_of(book, c + i, 0) as usize;
-        let both = searching::smaller(other, used as usize);
-        if both < one {
-            return false;
-        }
-        i += 1;
-    }
-    true
+    (0..n).all(|i| book::word_of(book, a + i, 0) <= book::word_of(book, c + i, 0).min(used))
 }
 
 // ---- no token twice
@@ -51,15 +32,7 @@ fn is_absent(book: &[u32], a: usize, n: usize, token: u32) -> bool
     requires { words * (a + n) ≤ length book.now }
     ensures { result ≡ not (is_in token (held_in book.now (range a n))) }
 {
-    let mut i = 0;
-    while i < n {
-        let tokens = book::tokens_at(book, a + i);
-        if searching::is_in(tokens, token) {
-            return false;
-        }
-        i += 1;
-    }
-    true
+    !(a..a + n).any(|k| searching::is_in(book::tokens_at(book, k), token))
 }
 
 // None of the tokens stands in any of the records.
@@ -67,14 +40,7 @@ pub fn are_absent(book: &[u32], a: usize, n: usize, tokens: &[u32]) -> bool
     requires { words * (a + n) ≤ length book.now }
     ensures { result ≡ apart tokens.now (held_in book.now (range a n)) }
 {
-    let mut i = 0;
-    while i < tokens.len() {
-        if !is_absent(book, a, n, tokens[i]) {
-            return false;
-        }
-        i += 1;
-    }
-    true
+    tokens.iter().all(|&token| is_absent(book, a, n, token))
 }
 
 // No token stands twice in the records.
@@ -82,18 +48,12 @@ pub fn is_once(book: &[u32], a: usize, n: usize) -> bool
     requires { words * (a + n) ≤ length book.now }
     ensures { result ≡ once_in (range a n) (λ k. record_at k book.now) }
 {
-    let mut i = 0;
-    while i < n {
-        let tokens = book::tokens_at(book, a + i);
-        if !searching::all_different(tokens) {
-            return false;
-        }
-        i += 1;
-        if !are_absent(book, a + i, n - i, tokens) {
-            return false;
-        }
-    }
-    true
+    let end = a + n;
+    (a..end).all(|k| {
+        let tokens = book::tokens_at(book, k);
+        let next = k + 1;
+        searching::all_different(tokens) && are_absent(book, next, end - next, tokens)
+    })
 }
 
 // No token of n records from a on stands in any of m from c on.
@@ -101,15 +61,7 @@ pub fn are_apart(book: &[u32], a: usize, n: usize, c: usize, m: usize) -> bool
     requires { (words * (a + n) ≤ length book.now) × (words * (c + m) ≤ length book.now) }
     ensures { result ≡ apart (held_in book.now (range a n)) (held_in book.now (range c m)) }
 {
-    let mut i = 0;
-    while i < n {
-        let tokens = book::tokens_at(book, a + i);
-        if !are_absent(book, c, m, tokens) {
-            return false;
-        }
-        i += 1;
-    }
-    true
+    (a..a + n).all(|k| are_absent(book, c, m, book::tokens_at(book, k)))
 }
 
 // ---- the money
@@ -119,11 +71,9 @@ pub fn sum_of(book: &[u32], w: usize, a: usize, n: usize) -> u64
     requires { (words * (a + n) ≤ length book.now) × (w < words) × (n ≤ 4096) }
     ensures { (result ≡ sum_in book.now w (range a n)) × (result ≤ n * 4294967295) }
 {
-    let mut total = 0u64;
-    let mut i = 0;
-    while i < n {
-        total += book::word_of(book, a + i, w) as u64;
-        i += 1;
+    let mut total = 0;
+    for i in 0..n {
+        total += u64::from(book::word_of(book, a + i, w));
     }
     total
 }

@@ -1,12 +1,11 @@
 // What soundness asks of a record by itself. Inner, all of them: the record is one of a book whose length was tested.
 ghost use Rattle.std.specs.Prelude.{◌≡◌, length, ◌&&◌, ◌||◌};
-ghost use Rattle.rules.specs.Lists.{true, eqb, all_zero, all_different};
+ghost use Rattle.rules.specs.Lists.{eqb, all_zero, all_different};
 ghost use Rattle.rules.specs.Records.{words, in_use, held};
 ghost use Rattle.rules.specs.Sound.{shaped, desk_good, bare, line_good, place_good, record_good};
-ghost use Rattle.index.specs.Usable.{usable};
 ghost use Rattle.sound.specs.Kept.{kept};
 
-use index::finding;
+use index::listed::Listed;
 use rules::Hall;
 use tokens::searching;
 
@@ -15,10 +14,7 @@ fn is_used_or_blank(rec: &[u32]) -> bool
     requires { length rec.now ≡ words }
     ensures { result ≡ (eqb (in_use rec.now) 1 || all_zero rec.now) }
 {
-    if book::in_use(rec) == 1 {
-        return true;
-    }
-    searching::is_blank(rec)
+    book::in_use(rec) == 1 || searching::is_blank(rec)
 }
 
 // In use or blank, and no more tokens than a record holds: what a slip line is asked too.
@@ -26,15 +22,10 @@ pub fn is_kept(rec: &[u32]) -> bool
     requires { length rec.now ≡ words }
     ensures { result ≡ kept rec.now }
 {
-    if 1 < book::in_use(rec) {
-        return false;
-    }
-    if !is_used_or_blank(rec) {
-        return false;
-    }
-    book::count(rec) <= 32
+    book::in_use(rec) <= 1 && is_used_or_blank(rec) && book::count(rec) <= 32
 }
 
+#[tactic(auto, unfolding(rules::specs::Sound::shaped))]
 fn is_shaped(rec: &[u32]) -> bool
     requires { length rec.now ≡ words }
     ensures { result ≡ shaped rec.now }
@@ -46,57 +37,39 @@ fn is_shaped(rec: &[u32]) -> bool
     searching::is_blank(&rec[past..])
 }
 
+#[tactic(auto, unfolding(rules::specs::Sound::desk_good))]
 fn is_desk(list: &[u32], rec: &[u32]) -> bool
     requires { length rec.now ≡ words }
     ensures { result ≡ desk_good list.now rec.now }
 {
-    if book::in_use(rec) != 1 {
-        return false;
-    }
-    let dealt = book::amount(rec) as usize;
-    if list.len() < dealt {
-        return false;
-    }
-    searching::is_blank(&rec[2..])
+    book::in_use(rec) == 1
+        && book::amount(rec) as usize <= list.len()
+        && searching::is_blank(&rec[2..])
 }
 
+#[tactic(auto, unfolding(rules::specs::Sound::bare))]
 fn is_bare(rec: &[u32]) -> bool
     requires { length rec.now ≡ words }
     ensures { result ≡ bare rec.now }
 {
-    if book::amount(rec) != 0 {
-        return false;
-    }
-    book::sales(rec) == 0
+    book::amount(rec) == 0 && book::sales(rec) == 0
 }
 
 fn is_till(rec: &[u32]) -> bool
     requires { length rec.now ≡ words }
     ensures { result ≡ (bare rec.now && all_different (held rec.now)) }
 {
-    if !is_bare(rec) {
-        return false;
-    }
-    let tokens = book::tokens_of(rec);
-    searching::all_different(tokens)
+    is_bare(rec) && searching::all_different(book::tokens_of(rec))
 }
 
+#[tactic(auto, unfolding(rules::specs::Sound::line_good))]
 fn is_line(rec: &[u32]) -> bool
     requires { length rec.now ≡ words }
     ensures { result ≡ line_good rec.now }
 {
-    if book::amount(rec) != 0 {
-        return false;
-    }
-    let sales = book::sales(rec) as usize;
-    if 16 < sales {
-        return false;
-    }
-    let count = book::count(rec) as usize;
-    if count < sales {
-        return false;
-    }
-    searching::smaller(sales, 1) == searching::smaller(count, 1)
+    let sales = book::sales(rec);
+    let count = book::count(rec);
+    book::amount(rec) == 0 && sales <= 16 && sales <= count && sales.min(1) == count.min(1)
 }
 
 // What record k is asked for its place: the desk, a carnet, the desk's view of a customer and of a bench, a till, a line. It is counted
@@ -128,16 +101,12 @@ fn fits_place(h: Hall, list: &[u32], k: usize, rec: &[u32]) -> bool
 }
 
 // All that record k is asked by itself, with d tokens dealt; its tokens are looked up by the index, where there is one.
-pub fn is_good(h: Hall, list: &[u32], index: &[u16], d: usize, k: usize, rec: &[u32]) -> bool
-    requires { (length rec.now ≡ words) × (usable list.now index.now ≡ true) }
-    ensures { result ≡ record_good h list.now d k rec.now }
+#[tactic(auto, unfolding(rules::specs::Sound::record_good))]
+pub fn is_good(h: Hall, listed: Listed, d: usize, k: usize, rec: &[u32]) -> bool
+    requires { length rec.now ≡ words }
+    ensures { result ≡ record_good h listed.entry.list.now d k rec.now }
 {
-    if !is_shaped(rec) {
-        return false;
-    }
-    let tokens = book::tokens_of(rec);
-    if !finding::all_among(list, index, d, tokens) {
-        return false;
-    }
-    fits_place(h, list, k, rec)
+    is_shaped(rec)
+        && listed.all_among(d, book::tokens_of(rec))
+        && fits_place(h, listed.list, k, rec)
 }

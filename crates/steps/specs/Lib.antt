@@ -1,5 +1,3 @@
--- What the contracts cite beside the rules: the records that a sale and a clear name; those of an authentication; a reply of one
--- number.
+-- What the contracts cite beside the rules: the records that a sale and a clear name; those of an authentication.
 pub mod Spots
 pub mod Pairs
-pub mod Replies

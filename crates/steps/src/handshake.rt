@@ -2,11 +2,12 @@
 // handshake goes on. Inner, all of them: the step has found the book sound and the record well formed, and calls the function of
 // its kind.
 ghost use Rattle.std.specs.Prelude.{◌≡◌, ◌≤◌};
-ghost use Rattle.rules.specs.Answers.{first, Gives};
-ghost use Rattle.changes.specs.Found.{Party, Bench};
+ghost use Rattle.rules.specs.Answers.{first, Gives, verdict_of};
+ghost use Rattle.changes.specs.Found.{Party};
 ghost use Rattle.kinds.specs.Kinds.{bench_authenticates, desk_authenticates, Placed, Tidy};
-ghost use Rattle.steps.specs.Pairs.{pair_of, bench_at, desk_at, used_up};
+ghost use Rattle.steps.specs.Pairs.{pair_of, bench_at, desk_at};
 
+use rules::refusal::Refusal;
 use rules::{Entry, Hall};
 
 // The numbers of the records that both name: the till, and the desk's view of its bench.
@@ -29,9 +30,10 @@ fn find(h: Hall, e: Entry) -> Pair
 // ---- the checks
 
 // Whatever the handshake, the bench may begin one.
-fn judge_bench(book: &[u32], at: Pair) -> u8
+#[tactic(auto, using(crate::proofs::handshake::Compared::first_cell), unfolding(crate::specs::Pairs::bench_at, rules::specs::Records::in_use, rules::specs::Records::count))]
+fn judge_bench(book: &[u32], at: Pair) -> Result<(), Refusal>
     requires { Party book.now at.till at.view }
-    ensures { result ≡ first (bench_at book.now at) }
+    ensures { verdict_of result ≡ first (bench_at book.now at) }
 {
     checks::bench_authenticates(
         book::word_of(book, at.view, 0),
@@ -43,9 +45,10 @@ fn judge_bench(book: &[u32], at: Pair) -> u8
 }
 
 // The desk answers where the bench has begun.
-fn judge_desk(book: &[u32], at: Pair) -> u8
+#[tactic(auto, using(crate::proofs::handshake::Compared::first_cell), unfolding(crate::specs::Pairs::desk_at, rules::specs::Records::in_use, rules::specs::Records::count, rules::specs::Records::handshake))]
+fn judge_desk(book: &[u32], at: Pair) -> Result<(), Refusal>
     requires { Party book.now at.till at.view }
-    ensures { result ≡ first (desk_at book.now at) }
+    ensures { verdict_of result ≡ first (desk_at book.now at) }
 {
     checks::desk_authenticates(
         book::word_of(book, at.view, 0),
@@ -59,32 +62,23 @@ fn judge_desk(book: &[u32], at: Pair) -> u8
 
 // ---- the kinds
 
-// Unless it is refused, the first token goes from till and view, and the handshake comes to s.
-fn authenticate(book: &mut [u32], at: Pair, refused: u8, s: u32) -> u8
-    requires { Bench book.old at.till at.view }
-    ensures { Gives (used_up book.old at refused s) result book.new }
-{
-    if refused != 0 {
-        return refused;
-    }
-    changes::use_up(book, at.till, at.view, s);
-    0
-}
-
-pub fn bench_authenticates(h: Hall, book: &mut [u32], e: Entry) -> u8
+// Unless it is refused, the first token goes from till and view, and the handshake goes on.
+pub fn bench_authenticates(h: Hall, book: &mut [u32], e: Entry) -> Result<(), Refusal>
     requires { Placed h book.old e 7 × Tidy h book.old }
-    ensures { Gives (bench_authenticates h book.old e) result book.new }
+    ensures { Gives (bench_authenticates h book.old e) (verdict_of result) book.new }
 {
     let at = find(h, e);
-    let refused = judge_bench(book, at);
-    authenticate(book, at, refused, 1)
+    judge_bench(book, at)?;
+    changes::use_up(book, at.till, at.view, 1);
+    Ok(())
 }
 
-pub fn desk_authenticates(h: Hall, book: &mut [u32], e: Entry) -> u8
+pub fn desk_authenticates(h: Hall, book: &mut [u32], e: Entry) -> Result<(), Refusal>
     requires { Placed h book.old e 8 × Tidy h book.old }
-    ensures { Gives (desk_authenticates h book.old e) result book.new }
+    ensures { Gives (desk_authenticates h book.old e) (verdict_of result) book.new }
 {
     let at = find(h, e);
-    let refused = judge_desk(book, at);
-    authenticate(book, at, refused, 2)
+    judge_desk(book, at)?;
+    changes::use_up(book, at.till, at.view, 2);
+    Ok(())
 }

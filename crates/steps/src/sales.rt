@@ -1,17 +1,18 @@
 // The kinds that work on a line, a sale and the two clears: one text for both forms of the book.
 // Inner, all of them: the step has found the book sound and the record well formed, and calls the function of its kind.
 ghost use Rattle.std.specs.Prelude.{◌≡◌, true, ◌≤◌};
-ghost use Rattle.rules.specs.Answers.{first, Gives};
+ghost use Rattle.rules.specs.Answers.{first, Gives, verdict_of};
 ghost use Rattle.rules.specs.Tape.{clears};
 ghost use Rattle.rules.specs.Verdicts.{StepGives};
 ghost use Rattle.book.specs.Forms.{form_of};
 ghost use Rattle.kinds.specs.Kinds.{sell, clear, numbered, Placed, Passed};
 ghost use Rattle.steps.specs.Spots.{spots_of, Stand, known_at, sale_at, shaken_at};
 
-use super::alone;
 use book::forms::Form;
 use changes::lines;
-use rules::{Entry, Hall, Reply};
+use rules::kind::Kind;
+use rules::refusal::{Refusal, Refused, Reply};
+use rules::{Entry, Hall};
 
 // The numbers of the records that they name: the carnet, the desk's views of customer and bench, the line.
 #[derive(Clone, Copy)]
@@ -37,9 +38,10 @@ fn find(h: Hall, e: Entry) -> Spots
 // ---- the checks
 
 // Whether bench, customer and line are known.
-fn known_line(book: &[u32], at: Spots) -> u8
+#[tactic(auto, unfolding(crate::specs::Spots::known_at, rules::specs::Records::in_use))]
+fn known_line(book: &[u32], at: Spots) -> Result<(), Refusal>
     requires { Stand book.now at }
-    ensures { result ≡ first (known_at book.now at) }
+    ensures { verdict_of result ≡ first (known_at book.now at) }
 {
     checks::line(
         book::word_of(book, at.bench, 0),
@@ -48,51 +50,40 @@ fn known_line(book: &[u32], at: Spots) -> u8
     )
 }
 
-// Then whether the carnet has n tokens, and the line room for them: asked of any line, and told of a known one.
-fn judge_sale(book: &[u32], at: Spots, n: u32) -> u8
+// Then whether the carnet has n tokens, and the line room for them.
+fn judge_sale(book: &[u32], at: Spots, n: u32) -> Result<(), Refusal>
     requires { Stand book.now at }
-    ensures { result ≡ first (sale_at book.now at n) }
+    ensures { verdict_of result ≡ first (sale_at book.now at n) }
 {
-    let known = known_line(book, at);
-    let sale = checks::sale(
+    known_line(book, at)?;
+    checks::sale(
         book::word_of(book, at.carnet, 2),
         book::word_of(book, at.line, 2),
         book::word_of(book, at.line, 3),
         n,
-    );
-    if known != 0 {
-        return known;
-    }
-    sale
+    )
 }
 
 // For either clear, whether bench, customer and line are known, and then whether bench and desk have shaken hands.
-fn judge_handshake(book: &[u32], at: Spots) -> u8
+fn judge_handshake(book: &[u32], at: Spots) -> Result<(), Refusal>
     requires { Stand book.now at }
-    ensures { result ≡ first (shaken_at book.now at) }
+    ensures { verdict_of result ≡ first (shaken_at book.now at) }
 {
-    let refused = known_line(book, at);
-    let shaken = checks::shaken(book::word_of(book, at.bench, 3));
-    if refused != 0 {
-        return refused;
-    }
-    shaken
+    known_line(book, at)?;
+    checks::shaken(book::word_of(book, at.bench, 3))
 }
 
 // ---- the kinds
 
 // The list is what the book is sound over: nothing of it is read.
-pub fn sell(form: Form, h: Hall, tokens: &[u32], book: &mut [u32], e: Entry) -> u8
+pub fn sell(form: Form, h: Hall, tokens: &[u32], book: &mut [u32], e: Entry) -> Result<(), Refusal>
     requires { Placed h book.old e 6 × Passed (form_of form) h tokens.now book.old e }
-    ensures { Gives (sell h book.old e (form_of form)) result book.new }
+    ensures { Gives (sell h book.old e (form_of form)) (verdict_of result) book.new }
 {
     let at = find(h, e);
-    let refused = judge_sale(book, at, e.amount);
-    if refused != 0 {
-        return refused;
-    }
+    judge_sale(book, at, e.amount)?;
     lines::sell(form, book, at.carnet, at.line, e.amount);
-    0
+    Ok(())
 }
 
 // Either clear: those of the line's tokens that live in the customer's view are struck from it, the bench is paid for each, and its
@@ -103,19 +94,15 @@ pub fn clear(form: Form, h: Hall, tokens: &[u32], book: &mut [u32], e: Entry) ->
     ensures { StepGives (numbered (form_of form) h tokens.now book.old e (clear h book.old e (form_of form) tokens.now)) result book.new }
 {
     let at = find(h, e);
-    let refused = judge_handshake(book, at);
-    if refused != 0 {
-        return alone(refused);
-    }
+    judge_handshake(book, at)?;
     let line = book::record_at(book, at.line);
     let n = book::count(line) as usize;
     let found = lines::find(form, tokens, line, book::tokens_at(book, at.view));
-    let refused = checks::clear(e.kind == 9, found.dead, n);
-    if refused != 0 {
-        return Reply {
-            verdict: refused,
+    if let Err(why) = checks::clear(e.kind == Kind::Clear as u8, found.dead, n) {
+        return Err(Refused {
+            why,
             second: found.dead as u8,
-        };
+        });
     }
     changes::settle(
         book,
@@ -125,8 +112,5 @@ pub fn clear(form: Form, h: Hall, tokens: &[u32], book: &mut [u32], e: Entry) ->
         found.marks,
         found.living as u32,
     );
-    Reply {
-        verdict: 0,
-        second: (n - found.living) as u8,
-    }
+    Ok((n - found.living) as u8)
 }

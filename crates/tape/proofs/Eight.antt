@@ -1,21 +1,15 @@
--- Eight bytes of a record: the fields read from a place on, or taken from two words, and the eight stores of a record.
+-- Eight bytes of a record: the fields taken from two words, and the eight stores of a record.
 use mathlib.Core.Path.{◌≡◌, ap, ◌∙◌}
 use Prim.Native.Nat.{◌≤◌}
-use native.Mathlib.Nat.{add-zero}
 use native.Mathlib.Omega.{arith}
 use lib.ListN.{set, drop_of_length-le}
-use lib.Seq.{get_or-drop, drop-drop}
+use lib.Seq.{drop-drop}
 use Rattle.rules.specs.Lists.{ℕ, ◌+◌, ◌/◌, ◌%◌, List, ◌∷◌, ◌++◌, length, take, drop, get_or}
 use Rattle.rules.specs.Bytes.{bytes_of, word_of}
 use Rattle.rules.specs.Tape.{entry_of}
 use Rattle.rules.specs.declared.Entry.{Entry}
 use Rattle.rules.proofs.Words.{Below, byte_top, below_drop, bytes_back_lem}
 use Rattle.octets.proofs.Stores.{four_stores}
-
-pub entry_made : (bs : List ℕ) (at w : ℕ) → w ≡ word_of (drop (at + 4) bs)
-    → ◌≡◌ {A = Entry} (record { kind = get_or bs at 0; bench = get_or bs (at + 1) 0; customer = get_or bs (at + 2) 0; byte3 = get_or bs (at + 3) 0; amount = w }) (entry_of (drop at bs))
-unfolding entry_of
-entry_made bs at w e = simp (get_or-drop, drop-drop, add-zero, e)
 
 -- the first four taken from a word, and the amount from the next
 pub entry_parted : (bs : List ℕ) (at head w : ℕ) → Below byte_top bs → head ≡ word_of (drop at bs) → w ≡ word_of (drop (at + 4) bs)

@@ -1,4 +1,3 @@
-pub mod ByKind
 pub mod Eight
 pub mod Reader
 pub mod Writer

@@ -1,14 +1,14 @@
--- The writer's answer: what its three returns answer, and when it is 0.
-use mathlib.Core.Path.{◌≡◌, refl, sym, ◌∙◌}
+-- The writer's answer: when it is 0, and a part of another length.
+use mathlib.Core.Path.{◌≡◌, refl}
 use native.Mathlib.Omega.{arith}
-use borrow.Author.Tests.{eqb-true, ne_eqb, not-false}
+use borrow.Author.Tests.{eqb-true, not-false}
+use Rattle.std.proofs.lemmas.Grind.{common_steps}
 use Rattle.rules.specs.Lists.{ℕ, false, not, eqb, List, [], ◌∷◌, ◌++◌, length}
 use Rattle.rules.specs.Answers.{Rule, ◌⇐◌, first, answer, Gives}
-use Rattle.rules.specs.Tape.{eight_bytes, well_formed, in_hall, entry_rules, write_entry}
+use Rattle.rules.specs.Tape.{well_formed, in_hall, entry_rules, write_entry}
 use Rattle.rules.specs.declared.Entry.{Entry}
 use Rattle.rules.specs.declared.Hall.{Hall}
-use Rattle.rules.proofs.Answering.{answer_refused, test_of, passed, first_past, first_refuses}
-use Rattle.rules.proofs.Writing.{write_entry_lem}
+use Rattle.rules.proofs.Answering.{test_of, passed}
 
 -- the writer's own rule, behind those of the record
 abbrev part_rule : List ℕ → List Rule
@@ -23,23 +23,7 @@ write_granted h e out given =
     let placed : not (in_hall h e) ≡ false = test 3 in
     (rw (formed, placed), eqb-true (length out) 8 (not-false _ (test 16)))
 
--- ---- the three returns
-module _ (h : Hall) (e : Entry) (out : List ℕ) (n : ℕ) (judged : n ≡ first (entry_rules h e)) where
-  refused : (m : ℕ) → (write_entry h e out).number ≡ m → (m ≡ 0 → ⊥) → Gives (write_entry h e out) m out
-  unfolding write_entry
-  refused m given some = record { number = sym given; cells = sym (answer_refused _ _ _ (λ z. some (sym given ∙ z))) }
-
-  pub write_bad : (n ≡ 0 → ⊥) → Gives (write_entry h e out) n out
-  unfolding write_entry answer
-  write_bad bad = refused n (sym (first_refuses (entry_rules h e) _ n judged bad)) bad
-
-  module _ (good : n ≡ 0) where
-    pub write_cut : (length out ≡ 8 → ⊥) → Gives (write_entry h e out) 16 out
-    unfolding write_entry answer first entry_rules
-    write_cut cut =
-        refused 16
-        (first_past (entry_rules h e) (part_rule out) refl (sym judged ∙ good) ∙ rw (ne_eqb (length out) 8 cut))
-        (λ z. omega arith)
-
-    pub write_good : (new : List ℕ) → length out ≡ 8 → new ≡ eight_bytes e → Gives (write_entry h e out) 0 new
-    write_good new eight laid = rw (write_entry_lem h e out (sym judged ∙ good) eight) (record { number = refl; cells = laid })
+-- a good record is refused where the part isn't 8 bytes
+pub write_cut : (h : Hall) (e : Entry) (out : List ℕ) → 0 ≡ first (entry_rules h e) → (length out ≡ 8 → ⊥) → Gives (write_entry h e out) 16 out
+unfolding write_entry answer first entry_rules
+write_cut h e out good cut = grind (arith, common_steps)

@@ -1,7 +1,6 @@
 -- Numbers 2 and 3 where it is given which of the three fields the record's kind uses.
-use Rattle.std.specs.Prelude.{◌&&◌, ◌||◌, ◌∷◌}
-use Rattle.rules.specs.Lists.{Bool, not, ltb, eqb, List, []}
-use Rattle.rules.specs.Answers.{Rule, ◌⇐◌}
+use Rattle.std.specs.Prelude.{◌&&◌, ◌||◌}
+use Rattle.rules.specs.Lists.{Bool, not, ltb, eqb}
 use Rattle.rules.specs.declared.Entry.{Entry}
 use Rattle.rules.specs.declared.Hall.{Hall}
 
@@ -11,6 +10,3 @@ formed e bench customer amount =
 
 unfoldable pub placed : Hall → Entry → Bool → Bool → Bool
 placed h e bench customer = (not bench || ltb e.bench h.benches) && (not customer || ltb e.customer h.customers)
-
-unfoldable pub field_rules : Hall → Entry → Bool → Bool → Bool → List Rule
-field_rules h e bench customer amount = (2 ⇐ not (formed e bench customer amount)) ∷ (3 ⇐ not (placed h e bench customer)) ∷ []

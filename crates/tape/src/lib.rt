@@ -2,108 +2,97 @@
 
 #![tactic(auto)]
 
-ghost use Rattle.std.specs.Prelude.{◌≡◌, ◌+◌, ◌≤◌, ◌||◌};
+ghost use Rattle.std.specs.Prelude.{◌≡◌, ◌+◌, ◌≤◌, ◌||◌, IfOk};
 ghost use Rattle.rules.specs.Lists.{not, leb, ltb, eqb, length, drop};
 ghost use Rattle.rules.specs.Hall.{main_hall};
-ghost use Rattle.rules.specs.Answers.{first, Gives};
-ghost use Rattle.rules.specs.Tape.{entry_rules, entry_of, eight_bytes, read_at, write_entry};
-ghost use Rattle.tape.specs.Fields.{formed, placed, field_rules};
-ghost use Rattle.tape.specs.Reading.{reading};
+ghost use Rattle.rules.specs.Answers.{first, verdict_of, Gives};
+ghost use Rattle.rules.specs.Tape.{kind_of, uses_bench, uses_customer, uses_amount, entry_rules, entry_of, eight_bytes, read_at, write_entry};
+ghost use Rattle.tape.specs.Fields.{formed, placed};
+ghost use Rattle.tape.specs.Reading.{refusal_of, reading};
 
+use rules::kind::Kind;
+use rules::refusal::Refusal;
 use rules::{Entry, Hall};
 
 // Number 2, of one field: what isn't used is zero.
 fn is_used_or_zero(used: bool, x: u32) -> bool
     ensures { result ≡ (used || eqb x 0) }
 {
-    if used {
-        return true;
-    }
-    x == 0
+    used || x == 0
 }
 
 // Number 3, of one field: what is used is one of the hall's `n`.
 fn is_unused_or_below(used: bool, x: u8, n: usize) -> bool
     ensures { result ≡ (not used || ltb x n) }
 {
-    if !used {
-        return true;
-    }
-    (x as usize) < n
+    !used || usize::from(x) < n
 }
 
 // Number 2, of all but the kind.
-fn is_formed(e: Entry, bench: bool, customer: bool, amount: bool) -> bool
-    ensures { result ≡ formed e bench customer amount }
+#[tactic(auto, unfolding(crate::specs::Fields::formed))]
+fn is_formed(e: Entry, kind: Kind) -> bool
+    ensures { result ≡ formed e (uses_bench (kind_of kind)) (uses_customer (kind_of kind)) (uses_amount (kind_of kind)) }
 {
-    if e.byte3 != 0 {
-        return false;
-    }
-    if !is_used_or_zero(bench, e.bench as u32) {
-        return false;
-    }
-    if !is_used_or_zero(customer, e.customer as u32) {
-        return false;
-    }
-    is_used_or_zero(amount, e.amount)
+    e.byte3 == 0
+        && is_used_or_zero(kind.uses_bench(), u32::from(e.bench))
+        && is_used_or_zero(kind.uses_customer(), u32::from(e.customer))
+        && is_used_or_zero(kind.uses_amount(), e.amount)
 }
 
-fn is_placed(h: Hall, e: Entry, bench: bool, customer: bool) -> bool
-    ensures { result ≡ placed h e bench customer }
+#[tactic(auto, unfolding(crate::specs::Fields::placed))]
+fn is_placed(h: Hall, e: Entry, kind: Kind) -> bool
+    ensures { result ≡ placed h e (uses_bench (kind_of kind)) (uses_customer (kind_of kind)) }
 {
-    if !is_unused_or_below(bench, e.bench, h.benches) {
-        return false;
-    }
-    is_unused_or_below(customer, e.customer, h.customers)
+    is_unused_or_below(kind.uses_bench(), e.bench, h.benches)
+        && is_unused_or_below(kind.uses_customer(), e.customer, h.customers)
 }
 
-// Numbers 2 and 3, or 0, of a kind that uses the bench, the customer, the amount or not.
-fn fields(h: Hall, e: Entry, bench: bool, customer: bool, amount: bool) -> u8
-    ensures { result ≡ first (field_rules h e bench customer amount) }
+// The kind of a record that numbers 2 and 3 let pass.
+#[tactic(auto, unfolding(rules::specs::Answers::first, rules::specs::Tape::entry_rules, rules::specs::Tape::well_formed, rules::specs::Tape::in_hall, crate::specs::Fields::formed, crate::specs::Fields::placed))]
+#[inline(always)]
+pub fn judge(h: Hall, e: Entry) -> Result<Kind, Refusal>
+    ensures number { verdict_of result ≡ first (entry_rules h e) }
+    ensures kind { IfOk result (λ k. kind_of k ≡ e.kind) }
 {
-    if !is_formed(e, bench, customer, amount) {
-        return 2;
+    let kind = Kind::try_from(e.kind)?;
+    if !is_formed(e, kind) {
+        return Err(Refusal::Malformed);
     }
-    if !is_placed(h, e, bench, customer) {
-        return 3;
+    if !is_placed(h, e, kind) {
+        return Err(Refusal::NotInHall);
     }
-    0
-}
-
-// Numbers 2 and 3, or 0. The kind is looked at once; which of bench, customer and amount it uses is written out. 8 has an arm of its own:
-// `7 | 8` is compiled as a range, whose ways meet again, and is harder to prove.
-pub fn judge(h: Hall, e: Entry) -> u8
-    ensures { result ≡ first (entry_rules h e) }
-{
-    let kind = e.kind;
-    match kind {
-        1 | 4 | 10 => fields(h, e, false, true, true),
-        2 | 7 => fields(h, e, true, false, false),
-        3 | 9 | 11 => fields(h, e, true, true, false),
-        5 => fields(h, e, true, false, true),
-        6 => fields(h, e, true, true, true),
-        8 => fields(h, e, true, false, false),
-        _ => 2,
-    }
+    Ok(kind)
 }
 
 // A reader's place on the tape.
-#[derive(Clone, Copy)]
+#[derive(Clone, Copy, PartialEq, Eq, Debug)]
 pub struct Cursor {
     pub at: usize,
 }
 
-// Number 0 with the record, number 2 or 3 with the record that is refused, and number 16.
-#[derive(Clone, Copy)]
-pub enum Got {
-    Good(Entry),
-    Bad(u8, Entry),
+// Why no good record is handed back: number 2 or 3, with the record that is refused, or number 16.
+#[derive(Clone, Copy, PartialEq, Eq, Debug)]
+pub enum Unread {
+    Bad(Refusal, Entry),
     Cut,
 }
 
-#[derive(Clone, Copy)]
+// The verdict number alone.
+impl From<Unread> for Refusal {
+    ghost from_gives = { λ unread why. why ≡ refusal_of unread };
+
+    fn from(unread: Unread) -> Refusal {
+        match unread {
+            Unread::Bad(why, _) => why,
+            Unread::Cut => Refusal::CutShort,
+        }
+    }
+}
+
+// What is handed back: the record or why not, and the cursor moved on.
+#[derive(Clone, Copy, PartialEq, Eq, Debug)]
 pub struct Reading {
-    pub got: Got,
+    pub got: Result<Entry, Unread>,
     pub next: Cursor,
 }
 
@@ -111,56 +100,47 @@ pub struct Reading {
 fn is_whole(n: usize, at: usize) -> bool
     ensures { result ≡ leb (at + 8) n }
 {
-    if n < 8 {
-        return false;
-    }
-    if n - 8 < at {
-        return false;
-    }
-    true
+    8 <= n && at <= n - 8
 }
 
 // The record that stands at a place with 8 bytes left; whether it is refused is not asked. Its bytes are read as two words, each of
 // which is one load, and the first is taken apart.
+#[tactic(auto, using(crate::proofs::Eight::entry_parted))]
 pub fn entry_at(bytes: &[u8], at: usize) -> Entry
     requires { at + 8 ≤ length bytes.now }
     ensures { result ≡ entry_of (drop at bytes.now) }
 {
-    let head = octets::word_at(bytes, at);
+    let [kind, bench, customer, byte3] = octets::word_at(bytes, at).to_le_bytes();
     Entry {
-        kind: (head % 256) as u8,
-        bench: (head / 256 % 256) as u8,
-        customer: (head / 65536 % 256) as u8,
-        byte3: (head / 16777216 % 256) as u8,
+        kind,
+        bench,
+        customer,
+        byte3,
         amount: octets::word_at(bytes, at + 4),
     }
 }
 
 impl Cursor {
     // The record at the cursor. A record that is refused is passed over, so that the one after it can be read.
+    #[tactic(auto, unfolding(rules::specs::Tape::read_at, crate::specs::Reading::got_of, crate::specs::Reading::reading))]
     pub fn read_of(self, h: Hall, tape: &[u8]) -> Reading
         ensures { result ≡ reading (read_at h tape.now self.at) }
     {
         let at = self.at;
         if !is_whole(tape.len(), at) {
             return Reading {
-                got: Got::Cut,
+                got: Err(Unread::Cut),
                 next: self,
             };
         }
         let e = entry_at(tape, at);
-        let after = at + 8;
-        let next = Cursor { at: after };
-        let number = judge(h, e);
-        if number != 0 {
-            return Reading {
-                got: Got::Bad(number, e),
+        let next = Cursor { at: at + 8 };
+        match judge(h, e) {
+            Ok(_) => Reading { got: Ok(e), next },
+            Err(why) => Reading {
+                got: Err(Unread::Bad(why, e)),
                 next,
-            };
-        }
-        Reading {
-            got: Got::Good(e),
-            next,
+            },
         }
     }
 
@@ -172,6 +152,7 @@ impl Cursor {
     }
 }
 
+#[tactic(auto, using(crate::proofs::Eight::put_eight), unfolding(rules::specs::Tape::eight_bytes))]
 fn put_entry(e: Entry, out: &mut [u8])
     requires { length out.old ≡ 8 }
     ensures { out.new ≡ eight_bytes e }
@@ -184,24 +165,21 @@ fn put_entry(e: Entry, out: &mut [u8])
 }
 
 // Writes the record, or answers why not: what reading would refuse comes before a part that isn't 8 bytes.
-pub fn write_of(h: Hall, e: Entry, out: &mut [u8]) -> u8
-    ensures { Gives (write_entry h e out.old) result out.new }
+#[tactic(auto, unfolding(rules::specs::Answers::first, rules::specs::Answers::answer, rules::specs::Tape::entry_rules, rules::specs::Tape::write_entry))]
+pub fn write_of(h: Hall, e: Entry, out: &mut [u8]) -> Result<(), Refusal>
+    ensures { Gives (write_entry h e out.old) (verdict_of result) out.new }
 {
-    let refused = judge(h, e);
-    let length = out.len();
-    if refused != 0 {
-        return refused;
-    }
-    if length != 8 {
-        return 16;
+    judge(h, e)?;
+    if out.len() != 8 {
+        return Err(Refusal::CutShort);
     }
     put_entry(e, out);
-    0
+    Ok(())
 }
 
 // In the hall in use.
-pub fn write(e: Entry, out: &mut [u8]) -> u8
-    ensures { Gives (write_entry main_hall e out.old) result out.new }
+pub fn write(e: Entry, out: &mut [u8]) -> Result<(), Refusal>
+    ensures { Gives (write_entry main_hall e out.old) (verdict_of result) out.new }
 {
     write_of(rules::MAIN, e, out)
 }

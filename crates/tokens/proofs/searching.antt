@@ -1,3 +1,4 @@
+pub mod Blocks
 pub mod Walks
 pub mod Least
 pub mod Determined

@@ -11,9 +11,9 @@ pub fn mark(map: &mut [u64], p: usize) -> bool
 {
     let j = p / 64;
     let k = p % 64;
-    let x = map[j];
-    map[j] = x | (1 << k);
-    (x >> k) % 2 == 0
+    let fresh = (map[j] >> k) & 1 == 0;
+    map[j] |= 1 << k;
+    fresh
 }
 
 // Marks n places from one on, if there is a map; whether each was new in its turn. It goes on behind a repeat, so that all of them are
@@ -22,15 +22,12 @@ pub fn mark_run(map: &mut [u64], p: usize, n: usize) -> bool
     requires { (mapped map.old ≡ true) × (p + n ≤ most_tokens) }
     ensures { Marked map.old (range p n) result map.new }
 {
-    if map.len() == 0 {
+    if map.is_empty() {
         return true;
     }
     let mut fresh = true;
-    let mut i = 0;
-    while i < n {
-        let new = mark(map, p + i);
-        fresh = fresh & new;
-        i += 1;
+    for place in p..p + n {
+        fresh &= mark(map, place);
     }
     fresh
 }
@@ -39,9 +36,5 @@ pub fn mark_run(map: &mut [u64], p: usize, n: usize) -> bool
 pub fn wipe(map: &mut [u64])
     ensures { map.new ≡ replicate (length map.old) 0 }
 {
-    let mut i = 0;
-    while i < map.len() {
-        map[i] = 0;
-        i += 1;
-    }
+    map.fill(0);
 }

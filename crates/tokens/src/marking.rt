@@ -21,28 +21,25 @@ pub fn find(list: &[u32], tokens: &[u32], marks: u32) -> Found
     requires { length list.now ≤ most_held }
     ensures { result ≡ found list.now tokens.now marks }
 {
-    let n = tokens.len();
-    let mut dead = n;
+    let mut dead = tokens.len();
     let mut gone = 0;
-    let mut all = marks;
-    let mut k = 0;
-    while k < n {
-        let place = searching::first_hit(list, tokens[k]);
+    let mut marks = marks;
+    for (k, &token) in tokens.iter().enumerate() {
+        let place = searching::first_hit(list, token);
         if place < list.len() {
-            all = all | (1 << place);
+            marks |= 1 << place;
         } else {
             if gone == 0 {
                 dead = k;
             }
             gone += 1;
         }
-        k += 1;
     }
-    let living = n - gone;
+    let living = tokens.len() - gone;
     Found {
-        dead: dead,
-        living: living,
-        marks: all,
+        dead,
+        living,
+        marks,
     }
 }
 
@@ -53,15 +50,13 @@ pub fn close_up(cells: &mut [u32], n: usize, marks: u32) -> usize
 {
     let mut left = marks;
     let mut kept = 0;
-    let mut i = 0;
-    while i < n {
+    for i in 0..n {
         let token = cells[i];
-        if left % 2 == 0 {
+        if left & 1 == 0 {
             cells[kept] = token;
             kept += 1;
         }
-        left = left / 2;
-        i += 1;
+        left >>= 1;
     }
     kept
 }

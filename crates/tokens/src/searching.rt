@@ -1,5 +1,5 @@
 // Lists of tokens, searched. Every function takes every list.
-ghost use Rattle.std.specs.Prelude.{◌≡◌, ◌+◌, ◌≤◌, min, length, take, drop};
+ghost use Rattle.std.specs.Prelude.{◌≡◌, ◌+◌, ◌≤◌, length, take, drop};
 ghost use Rattle.rules.specs.Lists.{all_zero, is_in, all_different, same_list, place_of};
 
 // One token after the other, up to the hit: of few tokens, and in the block that has the token.
@@ -24,16 +24,13 @@ pub fn first_hit(list: &[u32], token: u32) -> usize
 fn pass_over(list: &[u32], token: u32) -> usize
     ensures { (result ≤ length list.now) × (result + place_of token (drop result list.now) ≡ place_of token list.now) }
 {
-    let n = list.len();
-    let mut i = 0;
-    while 32 <= n - i {
-        let e = i + 32;
-        if is_in(&list[i..e], token) {
-            return i;
+    let (blocks, rest) = list.as_chunks::<32>();
+    for (k, block) in blocks.iter().enumerate() {
+        if is_in(block, token) {
+            return 32 * k;
         }
-        i = e;
     }
-    i
+    list.len() - rest.len()
 }
 
 // The first place of a token, or the list's length where it has none. Blocks without the token are passed over, several tokens
@@ -50,72 +47,45 @@ pub fn is_in(list: &[u32], token: u32) -> bool
     ensures { result ≡ is_in token list.now }
 {
     let mut found = false;
-    let mut i = 0;
-    while i < list.len() {
-        if list[i] == token {
-            found = true;
-        }
-        i += 1;
+    for &t in list {
+        found |= t == token;
     }
     found
-}
-
-pub fn smaller(a: usize, b: usize) -> usize
-    ensures { result ≡ min a b }
-{
-    if a < b { a } else { b }
 }
 
 // Whether a token is among the first n of a list.
 pub fn is_among(list: &[u32], n: usize, token: u32) -> bool
     ensures { result ≡ is_in token (take n list.now) }
 {
-    let e = smaller(n, list.len());
-    is_in(&list[..e], token)
+    is_in(&list[..n.min(list.len())], token)
 }
 
 pub fn all_different(list: &[u32]) -> bool
     ensures { result ≡ all_different list.now }
 {
-    let mut i = 0;
-    while i < list.len() {
-        let token = list[i];
-        i += 1;
-        if is_in(&list[i..], token) {
+    for (i, &token) in list.iter().enumerate() {
+        if is_in(&list[i + 1..], token) {
             return false;
         }
     }
     true
 }
 
-// Every word is 0.
+// Every word is 0. As in `is_in` all of them are looked at, several at once: by `all`, which stops at the first other word, a small
+// book took 70% more to be opened.
 pub fn is_blank(part: &[u32]) -> bool
     ensures { result ≡ all_zero part.now }
 {
-    let mut clear = true;
-    let mut i = 0;
-    while i < part.len() {
-        if part[i] != 0 {
-            clear = false;
-        }
-        i += 1;
+    let mut blank = true;
+    for &word in part {
+        blank &= word == 0;
     }
-    clear
+    blank
 }
 
 // Whether two lists are the same, in the same order.
 pub fn same_list(a: &[u32], b: &[u32]) -> bool
     ensures { result ≡ same_list a.now b.now }
 {
-    if a.len() != b.len() {
-        return false;
-    }
-    let mut i = 0;
-    while i < a.len() {
-        if a[i] != b[i] {
-            return false;
-        }
-        i += 1;
-    }
-    true
+    a == b
 }

@@ -2,7 +2,7 @@
 -- afterwards, is a value of the arguments.
 use Prim.Native.Nat.{ℕ}
 use mathlib.Core.List.{List}
-use Rattle.rules.proofs.Determined.{Determined, determined, both}
+use Rattle.rules.proofs.Determined.{Determined, determined, both, answered, Verdict}
 use Rattle.book.proofs.writing.wipe.Reads as wipe_call
 use Rattle.book.proofs.writing.write_head.Reads as write_head_call
 use Rattle.book.proofs.writing.write_record.Reads as write_record_call
@@ -38,8 +38,8 @@ copy_record_determined κs a = determined _ _ _ (λ z e p. p)
 set_word_determined : (κs : _) (a : _) → Determined (set_word_call.Learnt κs a) (λ z e. e.0.now)
 set_word_determined κs a = determined _ _ _ (λ z e p. p)
 
-make_empty_of_determined : (κs : _) (a : _) → Determined {O = ℕ × List ℕ} (make_empty_of_call.Learnt κs a) (λ z e. (z, e.1.0.now))
-make_empty_of_determined κs a = determined _ _ _ (λ z e p. both p.number p.cells)
+make_empty_of_determined : (κs : _) (a : _) → Determined {O = Verdict × List ℕ} (make_empty_of_call.Learnt κs a) (λ z e. (z, e.1.0.now))
+make_empty_of_determined κs a = determined _ _ _ (λ z e p. both (answered p.number) p.cells)
 
-make_empty_determined : (κs : _) (a : _) → Determined {O = ℕ × List ℕ} (make_empty_call.Learnt κs a) (λ z e. (z, e.0.now))
-make_empty_determined κs a = determined _ _ _ (λ z e p. both p.number p.cells)
+make_empty_determined : (κs : _) (a : _) → Determined {O = Verdict × List ℕ} (make_empty_call.Learnt κs a) (λ z e. (z, e.0.now))
+make_empty_determined κs a = determined _ _ _ (λ z e p. both (answered p.number) p.cells)

@@ -1,5 +1,5 @@
 -- The cells move forth; zeros stand behind them already, or are written there.
-use mathlib.Core.Path.{◌≡◌, refl}
+use mathlib.Core.Path.{◌≡◌}
 use mathlib.Core.Logic.{inl}
 use Prim.Native.Nat.{◌≤◌}
 use native.Mathlib.Omega.{arith}
@@ -19,14 +19,14 @@ pub returns-then-count-m : goal.returns-then-count-m
 returns-then-count-m c =
     let a = c.args in
     let there = zeros_there a.rec.now c.requires.0 c.requires.1 a.n a.m c.requires.2 c.requires.3 _ c.move_forth.ensures in
-    first_dropped a.rec.now c.requires.0 c.requires.1 a.n a.m c.requires.2 c.requires.3 _ c.move_forth.ensures _ _ _ _ _ _
-    c.count-count.ensures c.smaller.ensures refl (there _ _ _ _ _ c.count-count.ensures c.if-count-m.true c.write_head.ensures)
+    first_dropped a.rec.now c.requires.0 c.requires.1 a.n a.m c.requires.2 c.requires.3 _ c.move_forth.ensures _ _ _ _ _
+    c.count-count.ensures c.saturating_sub-left.ensures (there _ _ _ _ _ c.count-count.ensures c.if-count-m.true c.write_head.ensures)
 
 pub returns : goal.returns
 returns c =
     let a = c.args in
     let few : a.m ≤ most_held = omega (arith, c.requires.3) in
     let long : length c.move_forth.new.list ≡ words = omega (arith, c.move_forth.auto.list, c.requires.0) in
-    first_dropped a.rec.now c.requires.0 c.requires.1 a.n a.m c.requires.2 c.requires.3 _ c.move_forth.ensures _ _ _ _ _ _
-    c.count-count.ensures c.smaller.ensures refl
+    first_dropped a.rec.now c.requires.0 c.requires.1 a.n a.m c.requires.2 c.requires.3 _ c.move_forth.ensures _ _ _ _ _
+    c.count-count.ensures c.saturating_sub-left.ensures
     (record_cut _ _ _ a.m c.move_forth.new.list _ _ long few c.write_head.ensures c.wipe.ensures)

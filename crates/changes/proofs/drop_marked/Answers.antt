@@ -7,7 +7,7 @@ use Rattle.changes.proofs.drop_marked.Goals.{After-close_up-kept}
 use Rattle.changes.proofs.drop_marked.Goals as goal
 
 kept : (c : After-close_up-kept) → c.close_up-kept.result ≤ most_held
-kept c = kept_few _ _ _ _ _ c.smaller-n.ensures c.close_up-kept.ensures.0
+kept c = kept_few _ _ _ _ _ c.min-n.ensures c.close_up-kept.ensures.0
 
 pub overflow_cast-kept : goal.overflow_cast-kept
 overflow_cast-kept c = let few = kept (goal.at.overflow_cast-kept c).After-close_up-kept in search rules
@@ -17,5 +17,5 @@ cut_record-requires c = let few = kept (goal.at.cut_record-requires c).After-clo
 
 pub returns : goal.returns
 returns c =
-    marked_dropped c.args.rec.now c.requires _ _ _ _ _ _ _ _ c.count.ensures c.smaller-n.ensures c.close_up-kept.ensures.0
+    marked_dropped c.args.rec.now c.requires _ _ _ _ _ _ _ _ c.count.ensures c.min-n.ensures c.close_up-kept.ensures.0
     c.close_up-kept.ensures.1 c.cut_record.ensures

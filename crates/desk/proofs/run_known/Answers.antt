@@ -13,7 +13,8 @@ loop-i-init c = starts _ _ _ _ _ _ _ _ c.requires.0.good refl c.requires.2
 pub loop-i-preserved : goal.loop-i-preserved
 loop-i-preserved c =
     let s = c.args in
-    goes_on (form_of s.form) s.h s.tokens.now s.book.now s.tape.now (length s.verdicts.now) (works s.form).kept _ _ _ _ _ _ _ (omega (arith, c.loop-i-test.true, c.loop-i.invariant.size)) c.loop-i.invariant c.entry_at-e.ensures c.step_known-reply.ensures
+    rw c.numbers-verdict.ensures
+    (goes_on (form_of s.form) s.h s.tokens.now s.book.now s.tape.now (length s.verdicts.now) (works s.form).kept _ _ _ _ _ _ _ (omega (arith, c.loop-i-test.true, c.loop-i.invariant.size)) c.loop-i.invariant c.entry_at-e.ensures c.step_known.ensures)
 
 pub shape_of-book : goal.shape_of-book
 shape_of-book c =

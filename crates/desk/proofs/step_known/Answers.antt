@@ -1,8 +1,11 @@
 -- Numbers 2 and 3 first; then the record's kind.
-use Rattle.steps.proofs.Answered.{as_alone}
+use mathlib.Core.Path.{sym, ◌∙◌}
+use Rattle.rules.proofs.Answering.{some_number}
+use Rattle.rules.proofs.Dead.{handed_alone}
 use Rattle.desk.proofs.Refused.{step_malformed}
 use Rattle.desk.proofs.step_known.Goals as goal
 
-pub returns-then-refused-ne0 : goal.returns-then-refused-ne0
-returns-then-refused-ne0 c =
-    as_alone c.alone.ensures (step_malformed _ _ _ _ _ _ c.requires.good c.judge-refused.ensures c.if-refused-ne0.true)
+pub returns-in_err-kind : goal.returns-in_err-kind
+returns-in_err-kind c =
+    let told = handed_alone _ _ c.from_residual.ensures.1 in
+    step_malformed _ _ _ _ _ _ told.1 c.requires.good (told.0 ∙ c.in_err-kind.ensures.number) (λ z. some_number _ (sym told.0 ∙ z))

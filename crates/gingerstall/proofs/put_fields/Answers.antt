@@ -7,4 +7,4 @@ pub bounds-fields-4 : goal.bounds-fields-4
 bounds-fields-4 c = simp length-set (omega (arith, c.requires))
 
 pub returns : goal.returns
-returns c = five c.args.fields.now _ _ _ _ _ c.requires
+returns c = rw (c.from.ensures, c.from-2.ensures, c.from-3.ensures, c.from-4.ensures) (five c.args.fields.now _ _ _ _ _ c.requires)

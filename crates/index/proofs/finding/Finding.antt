@@ -1,27 +1,15 @@
--- Places: by an index or by a walk; among the first tokens of a list; of several numbers, and the answer.
-use Rattle.std.proofs.Common.{◌≡◌, ◌<◌, ◌≤◌, sym, refl, ap, ◌∙◌, ⊎_elim, arith, le-ltb, lt-ltb, eq-eqb, ne_eqb}
-use Rattle.rules.specs.Lists.{ℕ, zero, suc, ◌+◌, ◌-◌, min, true, false, ◌&&◌, ltb, eqb, List, [], ◌∷◌, length, take, get_or, set, occ, is_in, place_of, joined}
+-- Places by an index, of several numbers, and the answer.
+use Rattle.std.proofs.Common.{◌≡◌, ◌<◌, ◌≤◌, refl, ap, ◌∙◌, arith, eq-eqb, ne_eqb}
+use Rattle.rules.specs.Lists.{ℕ, zero, suc, ◌+◌, true, false, ◌&&◌, eqb, List, [], ◌∷◌, length, get_or, set, place_of, joined}
 use Rattle.rules.specs.Answers.{first, answer, Gives}
 use Rattle.rules.specs.Index.{is_index, places_into}
-use Rattle.rules.proofs.Tests.{and_no, below}
-use Rattle.laws.proofs.Runs.{place_le, front_occ}
-use Rattle.ring.proofs.Fits.{fits_different}
+use Rattle.rules.proofs.Tests.{and_no}
+use Rattle.laws.proofs.Runs.{place_le}
 use Rattle.ring.proofs.Theorems.{index_fits}
-use Rattle.tokens.proofs.searching.Least.{take_least}
 use Rattle.index.specs.Places.{places_of}
 use Rattle.index.proofs.Storing.{Stored, store_next, store_end}
 
 module _ (ts xs : List ℕ) (h : is_index ts xs ≡ true) (t : ℕ) where
-  -- a token of the first n has its place there
-  pub among_first : (n : ℕ) {p m : ℕ} → p ≡ place_of t ts → m ≡ min n (length ts) → ltb p m ≡ is_in t (take n ts)
-  among_first n {p} {m} e f =
-      let o : occ t (take n ts) ≡ min 1 (m - p) =
-      ap (occ t) (sym (take_least n m ts f)) ∙ front_occ ts (fits_different ts xs (index_fits ts xs h)) t m (omega arith) ∙ rw (sym e) in
-      ⊎_elim
-      (λ (l : p < m). lt-ltb p m l ∙ sym (lt-ltb 0 (occ t (take n ts)) (omega (arith, o))))
-      (λ (l : m ≤ p). le-ltb p m l ∙ sym (le-ltb 0 (occ t (take n ts)) (omega (arith, o))))
-      (below p m)
-
   pub place_small : place_of t ts ≤ 4096
   place_small = omega (arith, place_le t ts, (index_fits ts xs h).few)
 

@@ -1,19 +1,10 @@
--- Four bytes of a word from a place on: each store is within, and together they are four-stores.
+-- The four bytes lent come back as those of the word, and what lies behind them is as it was.
+use Prim.Native.Nat.{◌+◌}
 use native.Mathlib.Omega.{arith}
-use lib.ListN.{length-set}
+use borrow.Rule.Slice.PartMut.{Post-is}
 use Rattle.rules.specs.Bytes.{bytes_of}
-use Rattle.octets.proofs.Stores.{four_stores}
 use Rattle.octets.proofs.put_word.Goals as goal
-
-pub bounds-out-at-2 : goal.bounds-out-at-2
-bounds-out-at-2 c = simp length-set (omega arith)
-
-pub bounds-out-at-3 : goal.bounds-out-at-3
-bounds-out-at-3 c = simp length-set (omega arith)
-
-pub bounds-out-at-4 : goal.bounds-out-at-4
-bounds-out-at-4 c = simp length-set (omega arith)
 
 pub returns : goal.returns
 unfolding bytes_of
-returns c = four_stores _ _ _ _ _ _ c.requires
+returns c = rw (c.copy_from_slice.ensures.after, c.to_le_bytes.ensures, Post-is c.args.at (c.args.at + 4) c.args.out.now (omega arith))

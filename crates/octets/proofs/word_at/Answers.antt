@@ -1,4 +1,4 @@
--- The word that starts at a place: four bytes, each below 256, so that the sum fits.
+-- Of the bytes from a place on those at 0 to 3 are those from that place on.
 use native.Mathlib.Nat.{add-zero}
 use native.Mathlib.Omega.{arith}
 use lib.Seq.{get_or-drop}

@@ -1,13 +1,12 @@
--- The three answers of the reader: a record, which is written back, one that is refused, and none. Bytes are lent.
-use Rattle.outcomes.proofs.Records.{eight_returns, eight_refused, eight_cut}
+-- The answers of the reader: none, or a record that is refused, and a record, which is written back. Bytes are lent.
+use Rattle.rules.proofs.Answering.{handed_on}
+use Rattle.outcomes.proofs.Records.{eight_returns, eight_refused}
 use Rattle.outcomes.proofs.eight_back.Goals as goal
 
-pub returns-in-Good : goal.returns-in-Good
-returns-in-Good c =
-    eight_returns _ _ _ _ _ c.read-reading.ensures (λ i. (c.type_inv.tape i).fits) _ _ _ c.in-Good.is c.write.ensures
+pub returns-in_err-e : goal.returns-in_err-e
+returns-in_err-e c =
+    rw (handed_on _ _ c.from_residual.ensures.1) (eight_refused _ _ _ _ _ c.read.ensures _ c.in_err-e.was)
 
-pub returns-in-Bad : goal.returns-in-Bad
-returns-in-Bad c = eight_refused _ _ _ _ _ c.read-reading.ensures _ _ c.in-Bad.is
-
-pub returns-in-Cut : goal.returns-in-Cut
-returns-in-Cut c = eight_cut _ _ _ _ _ c.read-reading.ensures c.in-Cut.is
+pub returns : goal.returns
+returns c =
+    eight_returns _ _ _ _ _ c.read.ensures (λ i. (c.type_inv.tape i).fits) _ _ _ c.in_ok-e.was c.write.ensures

@@ -1,96 +1,117 @@
 -- Slips looked at one after the other: how many begin with a token, and whether each stands alone.
 use mathlib.Core.Path.{◌≡◌, refl, sym, ap, ◌∙◌}
-use Prim.Native.Nat.{◌≤◌, ◌<◌}
-use native.Mathlib.Nat.{zero-add}
+use Prim.Native.Nat.{◌≤◌}
+use native.Mathlib.Nat.{add-zero}
+use native.Mathlib.Numerals.{add-one}
 use native.Mathlib.Omega.{arith}
-use borrow.Author.Tests.{eq-eqb, ne_eqb}
-use Rattle.rules.specs.Lists.{ℕ, suc, ◌+◌, ◌*◌, ◌-◌, min, Bool, true, false, List, ◌∷◌, length, take, drop, get_or, occ}
+use lib.Seq.{drop-drop, get_or-drop}
+use borrow.Author.Tests.{eqb-true, eq-eqb}
+use Rattle.std.specs.Int.{from_bool}
+use Rattle.std.specs.List.{fold, sum_by, list_all, range_with_len}
+use Rattle.rules.specs.Lists.{ℕ, zero, suc, eqb, cond, ◌+◌, ◌*◌, ◌-◌, min, Bool, true, false, List, length, take, drop, get_or, range, occ, sum_of}
 use Rattle.rules.specs.declared.Hall.{Hall}
 use Rattle.rules.specs.Hall.{most_sales, carnets, lines}
-use Rattle.rules.specs.Records.{words, sales, cells, record_at}
+use Rattle.rules.specs.Records.{sales, cells, record_at}
 use Rattle.rules.specs.Slips.{open_slip}
-use Rattle.rules.proofs.Tests.{and_no}
-use Rattle.laws.proofs.Blocks.{block_size}
+use Rattle.rules.proofs.Tests.{alike}
 use Rattle.laws.proofs.Parts.{part_rest}
-use Rattle.laws.proofs.Pairs.{pairs_all, pairs_next, pairs_end, Each}
-use Rattle.laws.proofs.Occurrences.{occ_equal, occ_unequal}
+use Rattle.laws.proofs.Occurrences.{occ_joined}
 use Rattle.tokens.proofs.searching.Least.{drop_least}
-use Rattle.sound.specs.Together.{held_in, apart}
-use Rattle.slips.proofs.opening.Opening.{pairs_fit}
+use Rattle.sound.specs.Together.{held_in}
 use Rattle.slips.specs.Alone.{firsts, begun_in, alone, all_alone}
 
--- ---- the slips of a line, as they are read from record j of a book
-module _ (b : List ℕ) (j : ℕ) (r cs : List ℕ) (s k : ℕ) (er : r ≡ record_at j b) (ek : k ≡ min s most_sales) (ec : cs ≡ cells r) where
-  pub slips_fit : words * j + words ≤ length b → 2 * k ≤ length cs
-  slips_fit l = pairs_fit r cs k (block_size words j b r l er) (omega arith) ec
-
-  pub slips_read : {A : Type 0} (g : ℕ → List ℕ → A) → s ≡ sales r → g k cs ≡ g (min (sales (record_at j b)) most_sales) (cells (record_at j b))
-  slips_read g es =
-      ap (λ (x : List ℕ). g k x) (ec ∙ ap (λ (x : List ℕ). cells x) er)
-      ∙ ap (λ (x : ℕ). g x (cells (record_at j b))) (ek ∙ ap (λ (x : ℕ). min x most_sales) (es ∙ ap sales er))
+-- each slip of a line is alone, where the carnets hold these tokens and the slips begin with those
+abbrev pub line_alone : List ℕ → List ℕ → List ℕ → List ℕ → Bool
+line_alone ts carried begun r = all_alone ts carried begun (min (sales r) most_sales) (cells r)
 
 -- each slip of record j is alone in the book
 abbrev pub alone_at : Hall → List ℕ → List ℕ → ℕ → Bool
-alone_at h ts b j =
-    all_alone ts (held_in b (carnets h)) (begun_in b (lines h)) (min (sales (record_at j b)) most_sales) (cells (record_at j b))
+alone_at h ts b j = line_alone ts (held_in b (carnets h)) (begun_in b (lines h)) (record_at j b)
 
--- how many of the slips of record j begin with t
-abbrev pub beginning : List ℕ → ℕ → ℕ → ℕ
-beginning b t j = occ t (firsts (min (sales (record_at j b)) most_sales) (cells (record_at j b)))
+-- how many of the slips of a line begin with t
+abbrev pub beginning : ℕ → List ℕ → ℕ
+beginning t r = occ t (firsts (min (sales r) most_sales) (cells r))
 
--- ---- how many of k slips begin with t: those of the first i are counted
-module _ (t k : ℕ) (ps : List ℕ) where
-  abbrev cons : ℕ → ℕ → List ℕ → List ℕ
-  cons x n xs = x ∷ xs
+-- ---- how many of k slips begin with t, told by their numbers
+module _ (t : ℕ) (ps : List ℕ) where
+  abbrev pub hit : ℕ → ℕ
+  hit i = from_bool (eqb (get_or ps (2 * i) 0) t)
 
-  by_one : (m : ℕ) (qs : List ℕ) → firsts (suc m) qs ≡ cons (get_or qs 0 0) (get_or qs 1 0) (firsts m (drop 2 qs))
-  unfolding firsts
-  by_one m qs = refl
+  as_counted : (x : ℕ) → from_bool (eqb x t) ≡ cond (eqb t x) 1 0
+  as_counted x = ap from_bool (alike _ _ (λ e. eq-eqb t x (sym (eqb-true x t e))) (λ e. eq-eqb x t (sym (eqb-true t x e)))) ∙ go (eqb t x)
+    where
+      go : (b : Bool) → from_bool b ≡ cond b 1 0
+      go true = refl
+      go false = refl
 
-  abbrev pub Begun : ℕ → ℕ → Type 0
-  Begun hits i = (i ≤ k) × (hits ≤ i) × (hits + occ t (firsts (k - i) (drop (2 * i) ps)) ≡ occ t (firsts k ps))
+  counted : (n i k : ℕ) → fold (λ a j. a + hit j) n (range_with_len i k) ≡ n + occ t (firsts k (drop (2 * i) ps))
+  unfolding occ firsts
+  counted n i zero = omega arith
+  counted n i (suc k) =
+      let first : get_or (drop (2 * i) ps) 0 0 ≡ get_or ps (2 * i) 0 = get_or-drop (2 * i) ps 0 0 ∙ ap (λ (j : ℕ). get_or ps j 0) (add-zero (2 * i)) in
+      let next : 2 * i + 2 ≡ 2 * (i + 1) = omega arith in
+      let rest : drop 2 (drop (2 * i) ps) ≡ drop (2 * (i + 1)) ps = drop-drop 2 (2 * i) ps ∙ ap (λ (j : ℕ). drop j ps) next in
+      rw (first, rest, ← as_counted (get_or ps (2 * i) 0)) (omega (arith, counted (n + hit i) (i + 1) k))
 
-  pub begun_none : Begun 0 0
-  begun_none = (omega arith, omega arith, zero-add _ ∙ ap (occ t) (pairs_all firsts cons by_one k ps))
+  pub begun_all : (k : ℕ) → sum_by hit (range_with_len 0 k) ≡ occ t (firsts k ps)
+  begun_all k = omega (arith, counted 0 0 k)
 
-  module _ (hits i : ℕ) (inv : Begun hits i) where
-    pub begun_all : k ≤ i → (hits ≡ occ t (firsts k ps)) × (hits ≤ k)
-    unfolding firsts occ
-    begun_all l = (omega (arith, ap (occ t) (pairs_end firsts cons by_one k ps i l), inv.2), omega (arith, inv.0, inv.1))
+  few : (n i k : ℕ) → fold (λ a j. a + hit j) n (range_with_len i k) ≤ n + k
+  few n i zero = omega arith
+  few n i (suc k) = omega (arith, few (n + hit i) (i + 1) k, one (eqb (get_or ps (2 * i) 0) t))
+    where
+      one : (b : Bool) → from_bool b ≤ 1
+      one true = omega arith
+      one false = omega arith
 
-    module _ (l : i < k) where
-      next : occ t (firsts (k - i) (drop (2 * i) ps)) ≡ occ t (get_or ps (2 * i) 0 ∷ firsts (k - (i + 1)) (drop (2 * (i + 1)) ps))
-      next = ap (occ t) (pairs_next firsts cons by_one k ps i l)
+  pub begun_few : (k : ℕ) → sum_by hit (range_with_len 0 k) ≤ k
+  begun_few k = omega (arith, few 0 0 k)
 
-      pub begun_hit : get_or ps (2 * i) 0 ≡ t → (n : ℕ) → n ≡ hits + 1 → Begun n (i + 1)
-      begun_hit e n q =
-          let xs : List ℕ = firsts (k - (i + 1)) (drop (2 * (i + 1)) ps) in
-          (omega arith, omega (arith, inv.1), omega (arith, inv.2, next, occ_equal t (get_or ps (2 * i) 0) xs (sym e), ap (λ (x : ℕ). occ x xs) e))
+-- a line has no more than sixteen
+beginning_few : (t : ℕ) (r : List ℕ) → beginning t r ≤ most_sales
+beginning_few t r =
+    let k : ℕ = min (sales r) most_sales in
+    omega (arith, begun_all t (cells r) k, begun_few t (cells r) k)
 
-      pub begun_miss : (get_or ps (2 * i) 0 ≡ t → ⊥) → (n : ℕ) → n ≡ hits → Begun n (i + 1)
-      begun_miss e n q =
-          let xs : List ℕ = firsts (k - (i + 1)) (drop (2 * (i + 1)) ps) in
-          (omega arith, omega (arith, inv.1), omega (arith, inv.2, next, occ_unequal t (get_or ps (2 * i) 0) xs (λ p. e (sym p))))
+-- ---- counted along the records from a on
+module _ (t : ℕ) (b : List ℕ) where
+  abbrev pub begun_at : ℕ → ℕ
+  begun_at k = beginning t (record_at k b)
+
+  added : (m a n : ℕ) → fold (λ x k. x + begun_at k) m (range_with_len a n) ≡ m + sum_of begun_at (range a n)
+  unfolding sum_of range
+  added m a zero = omega arith
+  added m a (suc n) = rw add-one (omega (arith, added (m + begun_at a) (suc a) n))
+
+  pub all_begun : (a n : ℕ) → sum_by begun_at (range_with_len a n) ≡ occ t (begun_in b (range a n))
+  all_begun a n = omega (arith, added 0 a n) ∙ sym (occ_joined t (λ k. firsts (min (sales (record_at k b)) most_sales) (cells (record_at k b))) (range a n))
+
+  added_few : (m a n : ℕ) → fold (λ x k. x + begun_at k) m (range_with_len a n) ≤ m + n * most_sales
+  added_few m a zero = omega arith
+  added_few m a (suc n) = omega (arith, added_few (m + begun_at a) (a + 1) n, beginning_few t (record_at a b))
+
+  pub all_few : (a n : ℕ) → sum_by begun_at (range_with_len a n) ≤ n * most_sales
+  all_few a n = omega (arith, added_few 0 a n)
 
 -- ---- a slip, by what it is asked
 -- its later tokens, as the code lends them
-pub later_lent : (run : List ℕ) (m : ℕ) → m ≡ min 1 (length run) → take (length run - m) (drop m run) ≡ drop 1 run
-later_lent run m e = part_rest m run ∙ drop_least 1 m run e
+pub later_lent : (run : List ℕ) (m : ℕ) → m ≡ min (length run) 1 → take (length run - m) (drop m run) ≡ drop 1 run
+later_lent run m e = part_rest m run ∙ drop_least 1 m run (omega arith)
 
-module _ (carried begun : List ℕ) (t : ℕ) (run : List ℕ) where
-  pub alone_held : apart run carried ≡ false → false ≡ alone carried begun t run
-  unfolding alone
-  alone_held e = simp e
+-- ---- each of k slips is alone, told by their numbers
+module _ (ts carried begun ps : List ℕ) where
+  abbrev pub alone_slip : ℕ → Bool
+  alone_slip i =
+      let t : ℕ = get_or ps (2 * i) 0 in alone carried begun t (open_slip ts t (get_or ps (2 * i + 1) 0))
 
-  pub alone_twice : (occ t begun ≡ 1 → ⊥) → false ≡ alone carried begun t run
-  unfolding alone
-  alone_twice e = simp (ne_eqb (occ t begun) 1 e, and_no)
+  each : (i k : ℕ) → list_all alone_slip (range_with_len i k) ≡ all_alone ts carried begun k (drop (2 * i) ps)
+  unfolding all_alone
+  each i zero = refl
+  each i (suc k) =
+      let first : get_or (drop (2 * i) ps) 0 0 ≡ get_or ps (2 * i) 0 = get_or-drop (2 * i) ps 0 0 ∙ ap (λ (j : ℕ). get_or ps j 0) (add-zero (2 * i)) in
+      let next : 2 * i + 2 ≡ 2 * (i + 1) = omega arith in
+      let rest : drop 2 (drop (2 * i) ps) ≡ drop (2 * (i + 1)) ps = drop-drop 2 (2 * i) ps ∙ ap (λ (j : ℕ). drop j ps) next in
+      rw (first, get_or-drop (2 * i) ps 1 0, rest, ← each (i + 1) k)
 
-  pub alone_last : apart run carried ≡ true → occ t begun ≡ 1 → alone carried begun t run ≡ apart (drop 1 run) begun
-  unfolding alone
-  alone_last e q = simp (e, eq-eqb (occ t begun) 1 q)
-
--- ---- each of k slips is alone
-pub alone_each : (ts carried begun : List ℕ) → Each (all_alone ts carried begun) (λ t n. alone carried begun t (open_slip ts t n))
-unfolding all_alone
-alone_each ts carried begun = record { none = λ ps. refl; more = λ k ps. refl }
+  pub alone_each : (k : ℕ) → list_all alone_slip (range_with_len 0 k) ≡ all_alone ts carried begun k ps
+  alone_each k = each 0 k

@@ -120,10 +120,10 @@ module _ (h : Hall) (ts b : List ℕ) where
     pub ahead_read : {e l : ℕ} {r : Bool} → e ≡ d → l ≡ number h (Line 0 0) → r ≡ every (λ k. record_good h ts e k (record_at k b)) (range 0 l) → r ≡ ahead
     ahead_read ee el er = er ∙ rw (ee, el)
 
-    pub lines_read : {e l : ℕ} {map after : List ℕ} {r : Bool} → e ≡ d → l ≡ number h (Line 0 0) → map ≡ carried
-        → MarkedOrWiped (every (λ k. fine (record_at k b) && slip_line_good ts e (record_at k b)) (range l (h.customers * h.benches))) map (places_of ts (opened_in ts b (range l (h.customers * h.benches)))) r after
+    pub lines_read : {e : ℕ} {map after : List ℕ} {r : Bool} → e ≡ d → map ≡ carried
+        → MarkedOrWiped (every (λ k. fine (record_at k b) && slip_line_good ts e (record_at k b)) (lines h)) map (places_of ts O) r after
         → r ≡ lines_new
-    lines_read ee el em s = s.answer ∙ rw (ee, el, em)
+    lines_read ee em s = s.answer ∙ rw (ee, em)
 
   -- ---- what marks come to
   module _ (long : length b ≡ words * records h) where

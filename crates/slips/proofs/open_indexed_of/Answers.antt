@@ -1,24 +1,16 @@
 -- An index that is the list's is used.
-use mathlib.Core.Path.{◌≡◌, sym, ◌∙◌}
-use Rattle.rules.specs.Lists.{true}
-use Rattle.rules.specs.Index.{is_index}
+use Rattle.std.proofs.Common.{sym, ap, ◌∙◌, is_some}
 use Rattle.tokens.proofs.map.Marked.{whole_map}
-use Rattle.index.proofs.Usable.{index_usable}
 use Rattle.slips.proofs.Whole.{index_refused, index_opens}
 use borrow.Author.Rules.{rules}
-use Rattle.slips.proofs.open_indexed_of.Goals.{Else-not-is_index}
 use Rattle.slips.proofs.open_indexed_of.Goals as goal
 
-pub returns-then-not-is_index : goal.returns-then-not-is_index
-returns-then-not-is_index c = index_refused _ _ _ _ _ (sym c.is_index.ensures ∙ c.if-not-is_index.true)
-
-right : (c : Else-not-is_index) → let s = c.args in is_index s.list.now s.index.now ≡ true
-right c = sym c.is_index.ensures ∙ c.if-not-is_index.false
+pub returns-in_default : goal.returns-in_default
+returns-in_default c = index_refused _ _ _ _ _ (sym c.with.ensures.0 ∙ ap is_some c.in_default.is)
 
 pub open_by-requires : goal.open_by-requires
-open_by-requires c =
-    (c.requires.0, c.requires.1, index_usable _ _ (right (goal.at.open_by-requires c).Else-not-is_index), whole_map _ (search rules))
+open_by-requires c = (c.requires.0, c.requires.1, whole_map _ (search rules))
 
 pub returns : goal.returns
 returns c =
-    index_opens _ _ _ _ _ (right (goal.at.returns c).Else-not-is_index) c.open_by.ensures
+    index_opens _ _ _ _ _ (sym c.with.ensures.0 ∙ ap is_some c.in-Some.is) (rw (c.with.ensures.1 _ c.in-Some.is).0 at c.open_by.ensures)

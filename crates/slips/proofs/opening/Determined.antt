@@ -12,8 +12,8 @@ part_by_determined κs a = determined _ _ _ (λ z e p. p)
 slip_part_determined : (κs : _) (a : _) → Determined (slip_part_call.Learnt κs a) (λ z e. z.now)
 slip_part_determined κs a = determined _ _ _ (λ z e p. p)
 
-open_slips_determined : (κs : _) (a : _) → Determined (open_slips_call.Learnt κs a) (λ z e. e.1.1.1.1.0.now)
+open_slips_determined : (κs : _) (a : _) → Determined (open_slips_call.Learnt κs a) (λ z e. e.1.1.1.0.now)
 open_slips_determined κs a = determined _ _ _ (λ z e p. p)
 
-open_all_determined : (κs : _) (a : _) → Determined (open_all_call.Learnt κs a) (λ z e. e.1.1.1.1.0.now)
+open_all_determined : (κs : _) (a : _) → Determined (open_all_call.Learnt κs a) (λ z e. e.1.1.0.now)
 open_all_determined κs a = determined _ _ _ (λ z e p. p)

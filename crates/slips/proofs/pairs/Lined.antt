@@ -47,8 +47,8 @@ module _ (ts : List ℕ) (d : ℕ) (r map : List ℕ) where
         opened : MarkedIfGood (slips_good ts d k cs) map (places_of ts (slip_tokens ts r)) q after
         opened = rw tokens at m
 
-        pub line_slips_fail : {after' : List ℕ} → q ≡ false → Told false after'
-        line_slips_fail f = part_no (fine r && slip_line_good ts d r) (fine r && words_good) (slips_good ts d k cs) (all_zero (drop (2 * k) cs)) read opened f
+        pub line_slips_fail : {after' : List ℕ} → q ≡ false → Told q after'
+        line_slips_fail f = rw f (part_no (fine r && slip_line_good ts d r) (fine r && words_good) (slips_good ts d k cs) (all_zero (drop (2 * k) cs)) read opened f)
 
         pub line_decides : {last : Bool} → fine r ≡ true → k ≤ most_sales → n ≡ slip_sum k cs → q ≡ true → last ≡ all_zero (drop (2 * k) cs) → Told last after
         line_decides f l e t z =

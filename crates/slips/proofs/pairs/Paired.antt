@@ -1,32 +1,38 @@
 -- A line's slips, of which i are looked at: what is added up of them, and whether each is good.
-use mathlib.Core.Path.{◌≡◌, refl, ◌∙◌}
+use mathlib.Core.Path.{◌≡◌, refl, ap, ◌∙◌}
 use Prim.Native.Nat.{◌≤◌, ◌<◌}
-use native.Mathlib.Nat.{zero-add}
 use native.Mathlib.Omega.{arith}
-use Rattle.rules.specs.Lists.{ℕ, suc, ◌+◌, ◌*◌, ◌-◌, Bool, true, false, ◌&&◌, List, drop, get_or, place_of}
+use lib.Seq.{drop-drop, get_or-drop}
+use Rattle.std.specs.List.{fold, sum_by, range_with_len}
+use Rattle.rules.specs.Lists.{ℕ, zero, suc, ◌+◌, ◌*◌, ◌-◌, Bool, true, false, ◌&&◌, List, drop, get_or, place_of}
 use Rattle.rules.specs.Slips.{slip_sum, slips_good}
 use Rattle.rules.proofs.Tests.{parts, fails}
 use Rattle.laws.proofs.Pairs.{pairs_all, pairs_next, pairs_end, Each}
 use Rattle.slips.specs.Placed.{slip_good, slip_place}
 
--- ---- added up
-abbrev plus : ℕ → ℕ → ℕ → ℕ
-plus t n rest = n + rest
+-- ---- added up, by their numbers
+module _ (ps : List ℕ) where
+  abbrev pub tokens_of : ℕ → ℕ
+  tokens_of i = get_or ps (2 * i + 1) 0
 
-sum_law : (k : ℕ) (ps : List ℕ) → slip_sum (suc k) ps ≡ plus (get_or ps 0 0) (get_or ps 1 0) (slip_sum k (drop 2 ps))
-unfolding slip_sum
-sum_law k ps = refl
-
-module _ (k : ℕ) (ps : List ℕ) where
-  pub sum_all : 0 + slip_sum (k - 0) (drop (2 * 0) ps) ≡ slip_sum k ps
-  sum_all = zero-add _ ∙ pairs_all slip_sum plus sum_law k ps
-
-  pub sum_next : (i : ℕ) → i < k → slip_sum (k - i) (drop (2 * i) ps) ≡ get_or ps (2 * i + 1) 0 + slip_sum (k - (i + 1)) (drop (2 * (i + 1)) ps)
-  sum_next = pairs_next slip_sum plus sum_law k ps
-
-  pub sum_end : (i : ℕ) → k ≤ i → slip_sum (k - i) (drop (2 * i) ps) ≡ 0
+  added : (n i k : ℕ) → fold (λ a j. a + tokens_of j) n (range_with_len i k) ≡ n + slip_sum k (drop (2 * i) ps)
   unfolding slip_sum
-  sum_end = pairs_end slip_sum plus sum_law k ps
+  added n i zero = omega arith
+  added n i (suc k) =
+      let next : 2 * i + 2 ≡ 2 * (i + 1) = omega arith in
+      let rest : drop 2 (drop (2 * i) ps) ≡ drop (2 * (i + 1)) ps = drop-drop 2 (2 * i) ps ∙ ap (λ (j : ℕ). drop j ps) next in
+      rw (rest, get_or-drop (2 * i) ps 1 0) (omega (arith, added (n + tokens_of i) (i + 1) k))
+
+  pub sum_all : (k : ℕ) → sum_by tokens_of (range_with_len 0 k) ≡ slip_sum k ps
+  sum_all k = omega (arith, added 0 0 k)
+
+  module _ (small : (i : ℕ) → get_or ps i 0 < 4294967296) where
+    few : (n i k : ℕ) → fold (λ a j. a + tokens_of j) n (range_with_len i k) ≤ n + k * 4294967295
+    few n i zero = omega arith
+    few n i (suc k) = omega (arith, few (n + tokens_of i) (i + 1) k, small (2 * i + 1))
+
+    pub sum_few : (k : ℕ) → sum_by tokens_of (range_with_len 0 k) ≤ k * 4294967295
+    sum_few k = omega (arith, few 0 0 k)
 
 -- ---- a slip, by the place that is told of it
 module _ (ts : List ℕ) (d t n : ℕ) {p : ℕ} (e : p ≡ slip_place ts d t n) where

@@ -1,25 +1,22 @@
 -- The records looked at are good by themselves.
-use mathlib.Core.Path.{◌≡◌, sym, ap, ◌∙◌}
+use mathlib.Core.Path.{◌≡◌, sym, ◌∙◌}
 use native.Mathlib.Omega.{arith}
 use Rattle.rules.specs.Records.{words, record_at}
 use Rattle.rules.specs.Sound.{record_good}
 use Rattle.laws.proofs.Blocks.{block_size}
 use Rattle.laws.proofs.Loops.{upto_all, upto_end, first_no, first_yes}
-use borrow.Author.Rules.{rules}
 use Rattle.sound.proofs.are_good.Goals.{After-is_good}
 use Rattle.sound.proofs.are_good.Goals as goal
 
 good : (c : After-is_good) → let s = c.args in
-    c.is_good.result ≡ record_good s.h s.list.now s.d c.loop-k.k (record_at c.loop-k.k s.book.now)
-good c =
-    let s = c.args in
-    c.is_good.ensures ∙ ap (record_good s.h s.list.now s.d c.loop-k.k) c.record_at.ensures
+    c.is_good.result ≡ record_good s.h s.listed.list.now s.d c.loop-k.k (record_at c.loop-k.k s.book.now)
+good c = rw (c.is_good.ensures, c.record_at.ensures)
 
 pub loop-k-init : goal.loop-k-init
 loop-k-init c = upto_all _ 0 _
 
 pub is_good-requires : goal.is_good-requires
-is_good-requires c = (block_size words _ _ _ (omega arith) c.record_at.ensures, search rules)
+is_good-requires c = block_size words _ _ _ (omega arith) c.record_at.ensures
 
 pub returns-then-not-is_good : goal.returns-then-not-is_good
 returns-then-not-is_good c =

@@ -1,10 +1,8 @@
 -- The lines of the benches looked at have both their parties.
-use mathlib.Core.Path.{◌≡◌, sym, ap, ◌∙◌}
-use mathlib.Core.List.{List}
-use Prim.Native.Nat.{ℕ, ◌+◌, ◌*◌, ◌≤◌, ◌<◌}
+use mathlib.Core.Path.{◌≡◌, sym, ◌∙◌}
+use Prim.Native.Nat.{◌+◌, ◌*◌, ◌≤◌, ◌<◌}
 use native.Mathlib.Nat.{mul-le-mul_left}
 use native.Mathlib.Omega.{arith}
-use lib.ListN.{get_or}
 use Rattle.rules.specs.Hall.{Carnet, Till, Line, number}
 use Rattle.rules.specs.Records.{in_use, record_at}
 use Rattle.laws.proofs.Loops.{upto_all, upto_end, first_no, first_yes}
@@ -13,25 +11,17 @@ use Rattle.sound.proofs.Whole.{joins_are}
 use Rattle.sound.proofs.are_lines_joined.Goals.{After-are_backed, In-loop-m}
 use Rattle.sound.proofs.are_lines_joined.Goals as goal
 
-same_backed : (b : List ℕ) (n : ℕ) {x x' y y' u u' : ℕ} → x ≡ x' → y ≡ y' → u ≡ u' → backed b x y u n ≡ backed b x' y' u' n
-same_backed b n p q r = rw (p, q, r)
-
 -- the lines of a bench that is looked at are not past the last
-few : (c : In-loop-m) → let h = c.args.h in h.customers * c.loop-m.m + h.customers ≤ h.customers * h.benches
+few : (c : In-loop-m) → let h = c.args.book.hall in h.customers * c.loop-m.m + h.customers ≤ h.customers * h.benches
 few c =
-    let h = c.args.h in
+    let h = c.args.book.hall in
     let u : c.loop-m.m < h.benches = omega arith in
     omega (arith, mul-le-mul_left h.customers u)
 
-backs : (c : After-are_backed) → let s = c.args in
-    c.are_backed.result
-    ≡ backed s.book.now (number s.h (Line c.loop-m.m 0)) (number s.h (Carnet 0)) (in_use (record_at (number s.h (Till c.loop-m.m)) s.book.now)) s.h.customers
+backs : (c : After-are_backed) → let h = c.args.book.hall in let b = c.args.book.pages.now in
+    c.are_backed.result ≡ backed b (number h (Line c.loop-m.m 0)) (number h (Carnet 0)) (in_use (record_at (number h (Till c.loop-m.m)) b)) h.customers
 unfolding in_use
-backs c =
-    let b = c.args.book.now in
-    c.are_backed.ensures
-    ∙ same_backed b _ c.line-line.ensures c.carnet-carnets.ensures
-    (c.word_of-used.ensures ∙ ap (λ (k : ℕ). get_or (record_at k b) 0 0) c.till.ensures)
+backs c = rw (c.are_backed.ensures, c.line-line.ensures, c.carnet-carnets.ensures, c.word-used.ensures, c.till.ensures)
 
 pub loop-m-init : goal.loop-m-init
 loop-m-init c = upto_all _ 0 _

@@ -4,12 +4,15 @@ use mathlib.Core.Logic.{⊎_elim}
 use Prim.Native.Nat.{◌≤◌, ◌<◌}
 use native.Mathlib.Omega.{arith}
 use borrow.Author.Tests.{ltb-false, le-ltb, lt-ltb, not-true}
-use Rattle.rules.specs.Lists.{ℕ, ◌+◌, ◌-◌, Bool, true, false, not, ◌&&◌, ltb, List, [], ◌∷◌, ◌++◌, range, every, occ, is_in, all_different, sum_of, joined}
+use Rattle.rules.specs.Lists.{ℕ, zero, suc, ◌+◌, ◌-◌, Bool, true, false, not, ◌&&◌, ◌||◌, ltb, List, [], ◌∷◌, ◌++◌, range, every, occ, is_in, all_different, sum_of, joined}
 use Rattle.rules.specs.Records.{held}
 use Rattle.rules.specs.Sound.{once_in}
-use Rattle.rules.proofs.Tests.{parts, below, alike, true_and, and_no}
+use Rattle.rules.proofs.Tests.{parts, below, alike, true_and}
 use Rattle.laws.proofs.Occurrences.{occ_append, different_once, once_different}
 use Rattle.laws.proofs.Tokens.{every_both, every_in, in_every}
+use Rattle.std.specs.List.{list_all, list_any, range_with_len}
+use Rattle.index.proofs.Every.{every_all}
+use native.Mathlib.Numerals.{add-one}
 use Rattle.laws.proofs.Loops.{range_next, range_all, range_none}
 use Rattle.sound.specs.Together.{apart}
 
@@ -45,6 +48,28 @@ module _ (xs ys : List ℕ) where
       (λ (l : occ t xs ≤ 0). omega (arith, occ_append t xs ys, different_once ys r t))
       (below 0 (occ t xs))))
 
+-- ---- what the library says of a test of each record, in our words
+same_range : (a n : ℕ) → range_with_len a n ≡ range a n
+unfolding range
+same_range a zero = refl
+same_range a (suc n) = rw add-one (ap (λ (ks : List ℕ). a ∷ ks) (same_range (suc a) n))
+
+neither : (a b : Bool) → not (a || b) ≡ not a && not b
+neither true b = refl
+neither false b = refl
+
+none_of : (test : ℕ → Bool) (ks : List ℕ) → not (list_any test ks) ≡ every (λ k. not (test k)) ks
+unfolding every
+none_of test [] = refl
+none_of test (k ∷ ks) = neither (test k) (list_any test ks) ∙ ap (λ (b : Bool). not (test k) && b) (none_of test ks)
+
+module _ (test : ℕ → Bool) (a n : ℕ) where
+  pub all_in : list_all test (range_with_len a n) ≡ every test (range a n)
+  all_in = every_all test (range_with_len a n) ∙ ap (every test) (same_range a n)
+
+  pub none_in : not (list_any test (range_with_len a n)) ≡ every (λ k. not (test k)) (range a n)
+  none_in = none_of test (range_with_len a n) ∙ ap (every (λ k. not (test k))) (same_range a n)
+
 -- ---- by record
 none_both : (m n : ℕ) → not (ltb 0 m) && not (ltb 0 n) ≡ not (ltb 0 (m + n))
 none_both m n =
@@ -69,39 +94,18 @@ module _ (f : ℕ → List ℕ) where
       ap (λ (b : Bool). apart (f k) ys && b) (apart_joined ys ks)
       ∙ sym (every_both (λ x. not (is_in x ys)) (f k) (joined f ks))
 
--- ---- no token twice in the records from a on, of which i are looked at
-module _ (at : ℕ → List ℕ) (a n : ℕ) where
-  abbrev behind : ℕ → List ℕ
-  behind i = joined (λ k. held (at k)) (range (a + i) (n - i))
+-- ---- no token twice in the records below a last one: each has none twice, and none of its tokens is in a later one
+module _ (at : ℕ → List ℕ) (end : ℕ) where
+  abbrev pub unlike : ℕ → Bool
+  unlike k = all_different (held (at k)) && apart (held (at k)) (joined (λ j. held (at j)) (range (k + 1) (end - (k + 1))))
 
-  abbrev pub Once : ℕ → Type 0
-  Once i = (i ≤ n) × (once_in (range (a + i) (n - i)) at ≡ once_in (range a n) at)
-
-  pub once_all : Once 0
-  once_all = (omega arith, ap (λ (ks : List ℕ). once_in ks at) (range_all a n))
-
-  module _ (i : ℕ) (inv : Once i) where
-    pub once_end : n ≤ i → true ≡ once_in (range a n) at
-    unfolding once_in joined all_different
-    once_end l = sym (ap (λ (ks : List ℕ). once_in ks at) (range_none a n i l)) ∙ inv.1
-
-    module _ (l : i < n) where
-      this : once_in (range a n) at
-          ≡ (all_different (held (at (a + i))) && apart (held (at (a + i))) (behind (i + 1))) && once_in (range (a + (i + 1)) (n - (i + 1))) at
-      unfolding once_in joined
-      this =
-          sym inv.1
-          ∙ ap (λ (ks : List ℕ). once_in ks at) (range_next a n i l)
-          ∙ different_both (held (at (a + i))) (behind (i + 1))
-
-      pub once_twice : all_different (held (at (a + i))) ≡ false → false ≡ once_in (range a n) at
-      once_twice e = sym (this ∙ rw e)
-
-      pub once_again : apart (held (at (a + i))) (behind (i + 1)) ≡ false → false ≡ once_in (range a n) at
-      once_again e = sym (this ∙ rw (e, and_no (all_different (held (at (a + i))))))
-
-      pub once_yes : all_different (held (at (a + i))) ≡ true → apart (held (at (a + i))) (behind (i + 1)) ≡ true → Once (i + 1)
-      once_yes p q = (omega arith, sym (this ∙ rw (p, q)))
+  pub all_unlike : (a n : ℕ) → a + n ≡ end → list_all unlike (range_with_len a n) ≡ once_in (range a n) at
+  unfolding once_in joined range all_different
+  all_unlike a zero e = refl
+  all_unlike a (suc n) e =
+      let left : end - (a + 1) ≡ n = omega arith in
+      rw (left, add-one, all_unlike (suc a) n (omega arith))
+      (sym (different_both (held (at a)) (joined (λ j. held (at j)) (range (suc a) n))))
 
 -- ---- added up
 module _ (f : ℕ → ℕ) (a n : ℕ) where

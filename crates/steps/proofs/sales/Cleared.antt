@@ -1,5 +1,5 @@
 -- Either clear, by the numbers found: the line's tokens, which of them live, what is settled, and the book afterwards.
-use mathlib.Core.Path.{◌≡◌, refl, sym, ap, ap₂, ◌∙◌, subst}
+use mathlib.Core.Path.{◌≡◌, refl, sym, ap, ap₂, ◌∙◌}
 use Prim.Native.Nat.{◌≤◌, ◌<◌}
 use native.Mathlib.Omega.{arith}
 use borrow.Author.Tests.{eq-eqb, ltb-true, ltb-false}
@@ -9,7 +9,8 @@ use Rattle.rules.specs.Lists.{ℕ, ◌+◌, ◌-◌, ◌*◌, Bool, true, false,
 use Rattle.rules.specs.Hall.{most_held, most_sales}
 use Rattle.rules.specs.Answers.{Rule, first}
 use Rattle.rules.specs.Records.{words, amount, count, sales, handshake, held, made, with_amount, with_handshake, record_at, put}
-use Rattle.rules.specs.Tape.{Clear, kind_of, is}
+use Rattle.rules.specs.Tape.{kind_of, is, clears}
+use Rattle.rules.specs.declared.kind.Kind.TheVariants.{Clear}
 use Rattle.rules.specs.Form.{Form}
 use Rattle.rules.specs.Steps.{settling, clearing, put_all, the_bench_view, waiting}
 use Rattle.rules.specs.Verdicts.{dead_at, dropped}
@@ -22,16 +23,20 @@ use Rattle.tokens.specs.Marks.{unmarked, found}
 use Rattle.tokens.proofs.marking.Marking.{marked_all, unmarked_without}
 use Rattle.kinds.specs.Chains.{shaken_rules, clear_rules}
 use Rattle.changes.specs.Found.{Account}
-use Rattle.kinds.specs.Kinds.{known_line}
+use Rattle.kinds.specs.Kinds.{known_line, Placed, Passed}
+use Rattle.rules.proofs.ByKind.{clears_bench, clears_customer}
+use Rattle.book.specs.Forms.{form_of}
+use Rattle.book.specs.declared.forms.Form as code
 use Rattle.steps.specs.declared.sales.Spots.{Spots}
-use Rattle.steps.specs.Spots.{known_at, shaken_at}
+use Rattle.steps.specs.Spots.{spots_of, known_at, shaken_at}
 use Rattle.rules.proofs.Answering.{first_refuses}
 use Rattle.steps.proofs.sales.Chained.{shaken_then}
-use Rattle.steps.proofs.sales.Stood.{Case, inside, ready, all_stand, few_tokens, few_sales, counted}
+use Rattle.steps.proofs.sales.Stood.{Case, called, inside, ready, all_stand, few_tokens, few_sales, counted}
 
--- the place of the first token brought that doesn't live in the view
-abbrev dead : List ℕ → Spots → List ℕ → ℕ
-dead b at brought = first_absent (held (record_at at.view b)) brought
+-- a clear of either kind
+pub cleared : (f : code.Form) {h : Hall} {ts b : List ℕ} {e : Entry} {at : Spots}
+    → Placed h b e e.kind × Passed (form_of f) h ts b e × (clears e.kind ≡ true) → at ≡ spots_of h e → Case (form_of f) h ts b e e.kind at
+cleared f {e = e} pre found = called f (pre.0, pre.1) (clears_bench e.kind pre.2) (clears_customer e.kind pre.2) found
 
 -- a clear that knows its line and has its handshake is refused for a dead token alone
 pub refused_dead : (w : Bool) (d n r : ℕ) → r ≡ first (clear_rules w d n) → (r ≡ 0 → ⊥) → (r ≡ 15) × (d < n)
@@ -64,17 +69,14 @@ clear_chain f h ts b e =
     (known_line h b e ++ shaken_rules (handshake (the_bench_view h b e))) ++ clear_rules (is e Clear) (dead_at f h ts b e) (length (waiting h b e f ts))
 
 -- what was read, and what was found
-pub record Seen (f : Form) (ts b : List ℕ) (at : Spots) (r v : List ℕ) (n : ℕ) (seen : Found) : Type 0 where
+pub record Seen (f : Form) (h : Hall) (ts b : List ℕ) (e : Entry) (at : Spots) (r v : List ℕ) (n : ℕ) (seen : Found) : Type 0 where
+  pub case : Case f h ts b e e.kind at
   pub line : r ≡ record_at at.line b
   pub many : n ≡ count r
   pub view : v ≡ held (record_at at.view b)
   pub result : seen ≡ found v (f.tokens ts r) 0
 
 module _ {f : Form} {h : Hall} {ts b : List ℕ} {e : Entry} {k : ℕ} {at : Spots} (case : Case f h ts b e k at) where
-  -- the tokens that the bench brings, which are the line's
-  abbrev brought : List ℕ
-  brought = f.tokens ts (record_at at.line b)
-
   pub line_long : (r : List ℕ) → r ≡ record_at at.line b → length r ≡ words
   line_long r p = block_size words at.line b r (all_stand case).line p
 
@@ -85,80 +87,80 @@ module _ {f : Form} {h : Hall} {ts b : List ℕ} {e : Entry} {k : ℕ} {at : Spo
   -- ---- the number
   pub shaken_refused : (r : ℕ) → r ≡ first (shaken_at b at) → (r ≡ 0 → ⊥) → r ≡ first (clear_chain f h ts b e)
   unfolding shaken_at known_at known_line
-  shaken_refused r n z = first_refuses _ _ r (n ∙ ap (λ (s : Spots). first (shaken_at b s)) case.found) z
+  shaken_refused r n z = first_refuses _ _ r (rw case.found at n) z
 
-  pub account : (paid : ℕ) → paid ≤ most_held → Account b at.view at.bench at.line paid
-  account paid few =
+module _ {f : Form} {h : Hall} {ts b : List ℕ} {e : Entry} {at : Spots} {r v : List ℕ} {n : ℕ} {seen : Found} (s : Seen f h ts b e at r v n seen) where
+  -- the customer's tokens, and those that the bench brings, which are the line's
+  abbrev there : List ℕ
+  there = held (record_at at.view b)
+
+  abbrev brought : List ℕ
+  brought = f.tokens ts (record_at at.line b)
+
+  pub seen_few : n ≤ most_held
+  seen_few = rw (s.many, s.line) (few_tokens s.case)
+
+  -- the count that was read is how many tokens the line stands for
+  as_many : n ≡ length brought
+  as_many = s.many ∙ ap count s.line ∙ sym (counted s.case)
+
+  seen_there : seen ≡ found there brought 0
+  seen_there = s.result ∙ rw (s.view, s.line)
+
+  first_dead : seen.dead ≡ first_absent there brought
+  first_dead = ap (λ (x : Found). x.dead) seen_there
+
+  pub dead_is : seen.dead ≡ dead_at f h ts b e
+  dead_is = rw s.case.found at first_dead
+
+  living_is : seen.living ≡ length (among there brought)
+  living_is = ap (λ (x : Found). x.living) seen_there
+
+  pub living_few : seen.living ≤ n
+  living_few = omega (arith, living_is, as_many, split_length there brought)
+
+  -- what is paid for
+  pub few_live : seen.living ≤ most_held
+  few_live = omega (arith, living_few, seen_few)
+
+  pub account : Account b at.view at.bench at.line seen.living
+  account =
+      let case = s.case in
+      let few : amount (record_at at.bench b) ≤ 1000000 * h.customers = rw case.found ((ready case).balances e.bench (inside case).0) in
       record {
-        views_apart = subst (λ (s : Spots). s.view < s.bench) (sym case.found) (omega (arith, (inside case).1));
-        line_apart = subst (λ (s : Spots). s.bench < s.line) (sym case.found) (omega (arith, (inside case).0));
+        views_apart = rw case.found (omega (arith, (inside case).1));
+        line_apart = rw case.found (omega (arith, (inside case).0));
         line_stands = (all_stand case).line;
-        fits =
-            omega (
-              arith,
-              few,
-              case.placed.customers,
-              subst (λ (s : Spots). amount (record_at s.bench b) ≤ 1000000 * h.customers) (sym case.found) ((ready case).balances e.bench (inside case).0),
-            );
+        fits = omega (arith, few_live, case.placed.customers, few);
       }
 
-  module _ {r v : List ℕ} {n : ℕ} {seen : Found} (s : Seen f ts b at r v n seen) where
-    abbrev there : List ℕ
-    there = held (record_at at.view b)
+  -- those that aren't paid for are dropped; of a whole line, where it is granted, none
+  pub dropped_is : n - seen.living ≡ dropped f h ts b e
+  dropped_is =
+      let rest : n - seen.living ≡ length (without there brought) = omega (arith, living_is, as_many, split_length there brought) in
+      rw s.case.found at rest
 
-    pub seen_few : n ≤ most_held
-    seen_few = rw (s.many, s.line) (few_tokens case)
+  pub clear_number : (w : Bool) → w ≡ is e Clear → (x y : ℕ) → x ≡ first (shaken_at b at) → x ≡ 0 → y ≡ first (clear_rules w seen.dead n) → y ≡ first (clear_chain f h ts b e)
+  unfolding shaken_at known_at known_line
+  clear_number w q x y k z m =
+      let told : y ≡ first (shaken_at b at ++ clear_rules (is e Clear) (first_absent there brought) (length brought)) = shaken_then b at x k z _ y (m ∙ rw (q, first_dead, as_many)) in
+      rw s.case.found at told
 
-    -- the count that was read is how many tokens the line stands for
-    as_many : n ≡ length brought
-    as_many = s.many ∙ ap count s.line ∙ sym (counted case)
+  pub none_dropped : (w : Bool) → w ≡ is e Clear → (y : ℕ) → y ≡ first (clear_rules w seen.dead n) → y ≡ 0 → e.kind ≡ kind_of Clear → n - seen.living ≡ 0
+  none_dropped w q y m z k =
+      let all : length brought ≤ first_absent there brought = omega (arith, granted_live w _ _ y m z (q ∙ eq-eqb _ _ k), first_dead, as_many) in
+      omega (arith, living_is, as_many, ap length (among_all there brought (all_present there brought all)))
 
-    all_waiting : n ≡ length (waiting h b e f ts)
-    all_waiting = as_many ∙ ap (λ (s : Spots). length (f.tokens ts (record_at s.line b))) case.found
+  -- ---- the book afterwards: what isn't marked is without those that live
+  struck : unmarked seen.marks there ≡ without (among there brought) there
+  struck =
+      let differ : all_different there ≡ true = rw s.case.found ((ready s.case).differ e.customer (inside s.case).1) in
+      ap (λ (k : ℕ). unmarked k there) (ap (λ (x : Found). x.marks) seen_there ∙ marked_all there differ brought)
+      ∙ unmarked_without brought there
+      ∙ sym (without_among there brought)
 
-    seen_there : seen ≡ found there brought 0
-    seen_there = s.result ∙ rw (s.view, s.line)
-
-    first_dead : seen.dead ≡ dead b at brought
-    first_dead = ap (λ (x : Found). x.dead) seen_there
-
-    pub dead_is : seen.dead ≡ dead_at f h ts b e
-    dead_is = first_dead ∙ ap (λ (s : Spots). dead b s (f.tokens ts (record_at s.line b))) case.found
-
-    living_is : seen.living ≡ length (among there brought)
-    living_is = ap (λ (x : Found). x.living) seen_there
-
-    pub living_few : seen.living ≤ n
-    living_few = omega (arith, living_is, as_many, split_length there brought)
-
-    -- those that aren't paid for are dropped; of a whole line, where it is granted, none
-    pub dropped_is : n - seen.living ≡ dropped f h ts b e
-    dropped_is =
-        omega (arith, living_is, as_many, split_length there brought)
-        ∙ ap (λ (s : Spots). length (without (held (record_at s.view b)) (f.tokens ts (record_at s.line b)))) case.found
-
-    pub clear_number : (w : Bool) → w ≡ is e Clear → (x y : ℕ) → x ≡ first (shaken_at b at) → x ≡ 0 → y ≡ first (clear_rules w seen.dead n) → y ≡ first (clear_chain f h ts b e)
-    unfolding shaken_at known_at known_line
-    clear_number w q x y k z m =
-        shaken_then b at x k z _ y (m ∙ rw (q, dead_is, all_waiting))
-        ∙ ap (λ (s : Spots). first (shaken_at b s ++ clear_rules (is e Clear) (dead_at f h ts b e) (length (waiting h b e f ts)))) case.found
-
-    pub none_dropped : (w : Bool) → w ≡ is e Clear → (y : ℕ) → y ≡ first (clear_rules w seen.dead n) → y ≡ 0 → e.kind ≡ kind_of Clear → n - seen.living ≡ 0
-    none_dropped w q y m z k =
-        let all : length brought ≤ first_absent there brought = omega (arith, granted_live w _ _ y m z (q ∙ eq-eqb _ _ k), first_dead, as_many) in
-        omega (arith, living_is, as_many, ap length (among_all there brought (all_present there brought all)))
-
-    -- ---- the book afterwards: what isn't marked is without those that live
-    struck : unmarked seen.marks there ≡ without (among there brought) there
-    struck =
-        let differ = subst (λ (s : Spots). all_different (held (record_at s.view b)) ≡ true) (sym case.found) ((ready case).differ e.customer (inside case).1) in
-        ap (λ (k : ℕ). unmarked k there) (ap (λ (x : Found). x.marks) seen_there ∙ marked_all there differ brought)
-        ∙ unmarked_without brought there
-        ∙ sym (without_among there brought)
-
-    pub clear_written : (new : List ℕ) → new ≡ settled b at seen.living (unmarked seen.marks there) → new ≡ put_all h (clearing h b e f ts) b
-    unfolding put_all settling clearing
-    clear_written new w =
-        w
-        ∙ ap₂ (settled b at) living_is struck
-        ∙ ap (λ (s : Spots). let v = held (record_at s.view b) in let g = among v (f.tokens ts (record_at s.line b)) in settled b s (length g) (without g v)) case.found
+  pub clear_written : (new : List ℕ) → new ≡ settled b at seen.living (unmarked seen.marks there) → new ≡ put_all h (clearing h b e f ts) b
+  unfolding put_all settling clearing
+  clear_written new w =
+      let as_settled : new ≡ settled b at (length (among there brought)) (without (among there brought) there) = w ∙ ap₂ (settled b at) living_is struck in
+      rw s.case.found at as_settled

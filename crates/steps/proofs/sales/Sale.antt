@@ -1,21 +1,20 @@
 -- A sale, by the numbers found: the number given, room for what is sold once it is granted, and the book afterwards.
-use mathlib.Core.Path.{◌≡◌, sym, ap, ◌∙◌, subst}
-use Prim.Native.Nat.{◌≤◌, ◌<◌}
+use mathlib.Core.Path.{◌≡◌, sym, ap, ◌∙◌}
+use Prim.Native.Nat.{◌≤◌}
 use native.Mathlib.Omega.{arith}
 use lib.ListN.{length-append}
 use Rattle.rules.specs.declared.Hall.{Hall}
 use Rattle.rules.specs.declared.Entry.{Entry}
-use Rattle.rules.specs.Lists.{ℕ, ◌+◌, ◌-◌, true, List, ◌++◌, length, drop, replicate, all_zero}
+use Rattle.rules.specs.Lists.{ℕ, ◌-◌, List, ◌++◌, length, replicate}
 use Rattle.rules.specs.Hall.{most_held, Carnet, number}
 use Rattle.rules.specs.Answers.{Rule, first, answer}
-use Rattle.rules.specs.Records.{words, count, sales, cells, filled, record_at}
+use Rattle.rules.specs.Records.{words, count, sales, filled}
 use Rattle.rules.specs.Form.{Form}
 use Rattle.rules.specs.Steps.{the_carnet, the_line, sold_line, selling, put_all}
 use Rattle.rules.specs.Verdicts.{Stepped, verdict}
 use Rattle.rules.proofs.Granted.{sell_enough, sell_room}
 use Rattle.rules.proofs.Stepping.{step_verdict}
 use Rattle.kinds.specs.Chains.{sale_rules}
-use Rattle.changes.specs.Found.{Neat}
 use Rattle.changes.specs.Sales.{sold_cells, sold, Room}
 use Rattle.kinds.specs.Kinds.{known_line, sell}
 use Rattle.kinds.proofs.Table.{step_sell}
@@ -56,15 +55,15 @@ module _ {f : Form} {h : Hall} {ts b : List ℕ} {e : Entry} {at : Spots} (case 
     sale_room =
         record {
           line_inside = (all_stand case).line;
-          apart = subst (λ (s : Spots). s.carnet < s.line) (sym case.found) (omega (arith, (inside case).1));
+          apart = rw case.found (omega (arith, (inside case).1));
           carnet_neat =
-              subst (λ (s : Spots). Neat (record_at s.carnet b)) (sym case.found)
+              rw case.found
               (neat h b e 6 case.placed (ready case).tidy (number h (Carnet e.customer)) (omega (arith, (inside case).1)));
-          enough = subst (λ (s : Spots). e.amount ≤ count (record_at s.carnet b)) (sym case.found) (sell_enough f h ts b e granted case.placed.kind);
+          enough = rw case.found (sell_enough f h ts b e granted case.placed.kind);
           line_past =
-              subst (λ (s : Spots). all_zero (drop (length (f.cells (record_at s.line b))) (cells (record_at s.line b))) ≡ true) (sym case.found)
+              rw case.found
               (case.works.line_past h ts b case.passed.good e.bench e.customer (inside case));
-          cells = subst (λ (s : Spots). length (sold_cells f b s.carnet s.line e.amount) ≤ most_held) (sym case.found) whole;
-          tokens = subst (λ (s : Spots). count (record_at s.line b) + e.amount ≤ most_held) (sym case.found) (sell_room f h ts b e granted case.placed.kind);
+          cells = rw case.found whole;
+          tokens = rw case.found (sell_room f h ts b e granted case.placed.kind);
           sales = few_sales case;
         }

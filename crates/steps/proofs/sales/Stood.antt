@@ -1,5 +1,5 @@
 -- The numbers found are those of the records named, which stand in a book that is sound in its form.
-use mathlib.Core.Path.{◌≡◌, sym, subst}
+use mathlib.Core.Path.{◌≡◌}
 use Prim.Native.Nat.{◌≤◌}
 use native.Mathlib.Omega.{arith}
 use Rattle.rules.specs.declared.Hall.{Hall}
@@ -47,7 +47,7 @@ module _ {f : Form} {h : Hall} {ts b : List ℕ} {e : Entry} {k : ℕ} {at : Spo
 
   pub all_stand : Stand b at
   all_stand =
-      subst (Stand b) (sym case.found) (
+      rw case.found (
       record {
         carnet = stands h b e k case.placed (Carnet e.customer) inside.1;
         view = stands h b e k case.placed (View e.customer) inside.1;
@@ -59,15 +59,15 @@ module _ {f : Form} {h : Hall} {ts b : List ℕ} {e : Entry} {k : ℕ} {at : Spo
   -- the line: its counts keep to their limits, and it stands for as many tokens as it counts
   pub few_tokens : count (record_at at.line b) ≤ most_held
   few_tokens =
-      subst (λ (s : Spots). count (record_at s.line b) ≤ most_held) (sym case.found)
+      rw case.found
       (ready.counts (number h (Line e.bench e.customer)) (inside_below h (Line e.bench e.customer) inside))
 
   pub few_sales : sales (record_at at.line b) ≤ most_sales
   few_sales =
-      subst (λ (s : Spots). sales (record_at s.line b) ≤ most_sales) (sym case.found)
+      rw case.found
       (ready.line_sales (number h (Line e.bench e.customer)) (omega arith) (inside_below h (Line e.bench e.customer) inside))
 
   pub counted : length (f.tokens ts (record_at at.line b)) ≡ count (record_at at.line b)
   counted =
-      subst (λ (s : Spots). length (f.tokens ts (record_at s.line b)) ≡ count (record_at s.line b)) (sym case.found)
+      rw case.found
       (case.works.lines.counted h ts b case.passed.good e.bench e.customer inside)

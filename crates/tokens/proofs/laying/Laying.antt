@@ -1,14 +1,16 @@
--- Tokens laid over lent cells: one more, four more, the last ones, as many as fit, some behind others.
+-- Tokens laid over lent cells: one more, as many as fit, some behind others, four more.
 use mathlib.Core.Path.{◌≡◌, refl, sym, ap, ◌∙◌}
-use mathlib.Core.Logic.{⊎_elim}
 use Prim.Native.Nat.{◌≤◌, ◌<◌}
 use native.Mathlib.Numerals.{add-one}
 use native.Mathlib.Omega.{arith}
-use lib.ListN.{set}
-use lib.Seq.{take-suc, take_all, take-nil, drop-nil, length-take-le}
-use Rattle.rules.specs.Lists.{ℕ, zero, suc, ◌+◌, min, List, [], ◌∷◌, ◌++◌, length, take, drop, get_or}
-use Rattle.rules.proofs.Tests.{below}
+use lib.ListN.{set, take-append-drop}
+use lib.Seq.{take-suc, take_all, take-nil, drop-nil, length-take-le, get_or-take, get_or-drop}
+use borrow.Rule.Slice.PartMut.{put_mid}
+use Rattle.std.specs.Simd.{first_chunks}
+use Rattle.rules.specs.Lists.{ℕ, zero, suc, ◌+◌, ◌-◌, ◌*◌, ◌/◌, ◌%◌, min, List, [], ◌∷◌, ◌++◌, length, take, drop, get_or}
+use Rattle.laws.proofs.Parts.{part_rest, back_rest}
 use Rattle.tokens.specs.Laid.{laid}
+use Rattle.tokens.proofs.searching.Blocks.{block_is}
 
 pub laid_nothing : (out : List ℕ) → laid [] out ≡ out
 unfolding laid
@@ -34,7 +36,7 @@ laid_next xs out i l =
     ∙ ap (λ (l : List ℕ). laid l out) (sym (take-suc xs i 0 l) ∙ ap (λ (n : ℕ). take n xs) (sym (add-one i)))
 
 -- four tokens more, as one turn lays them
-pub laid_fours : (xs out : List ℕ) (i : ℕ) → i + 4 ≤ length xs
+laid_fours : (xs out : List ℕ) (i : ℕ) → i + 4 ≤ length xs
     → set (set (set (set (laid (take i xs) out) i (get_or xs i 0)) (i + 1) (get_or xs (i + 1) 0)) (i + 2) (get_or xs (i + 2) 0)) (i + 3) (get_or xs (i + 3) 0)
     ≡ laid (take (i + 4) xs) out
 laid_fours xs out i l =
@@ -52,35 +54,6 @@ laid_enough n (x ∷ xs) [] l = laid_nowhere (take n (x ∷ xs)) ∙ sym (laid_n
 laid_enough zero (x ∷ xs) (y ∷ out) l = absurd (omega arith)
 laid_enough (suc n) (x ∷ xs) (y ∷ out) l = ap (λ (z : List ℕ). x ∷ z) (laid_enough n xs out (omega arith))
 
--- the last tokens, at most three, each laid where there is one
-module _ (xs cells : List ℕ) (n : ℕ) (e : n ≡ min (length xs) (length cells)) where
-  abbrev One : List ℕ → List ℕ → ℕ → Type 0
-  One out new i = (i < n → new ≡ set out i (get_or xs i 0)) × (n ≤ i → new ≡ out)
-
-  laid_one : (i k j : ℕ) (out new : List ℕ) → k ≡ min i n → j ≡ min (i + 1) n → One out new i → out ≡ laid (take k xs) cells → new ≡ laid (take j xs) cells
-  laid_one i k j out new ek ej one p =
-      ⊎_elim
-      (λ (l : i < n).
-      let k_i : k ≡ i = omega arith in
-      let i_j : i + 1 ≡ j = omega arith in
-      one.0 l
-      ∙ ap (λ (x : List ℕ). set x i (get_or xs i 0)) (p ∙ to k_i)
-      ∙ laid_next xs cells i (omega arith)
-      ∙ to i_j)
-      (λ (l : n ≤ i). let k-j : k ≡ j = omega arith in one.1 l ∙ p ∙ to k-j)
-      (below i n)
-    where
-      to : {a b : ℕ} → a ≡ b → laid (take a xs) cells ≡ laid (take b xs) cells
-      to q = ap (λ (m : ℕ). laid (take m xs) cells) q
-
-  pub laid_last : (r : ℕ) (out₀ out₁ out₂ out₃ : List ℕ) → r ≤ n → n < r + 4 → out₀ ≡ laid (take r xs) cells
-      → One out₀ out₁ r → One out₁ out₂ (r + 1) → One out₂ out₃ (r + 2) → out₃ ≡ laid xs cells
-  laid_last r out₀ out₁ out₂ out₃ l u p a b c =
-      laid_one (r + 2) (min (r + 2) n) n out₂ out₃ refl (omega arith) c
-      (laid_one (r + 1) (min (r + 1) n) (min (r + 2) n) out₁ out₂ refl (omega arith) b
-      (laid_one r r (min (r + 1) n) out₀ out₁ (omega arith) refl a p))
-      ∙ laid_enough n xs cells (omega arith)
-
 -- tokens that all have a place
 pub laid_all : (xs out : List ℕ) → length xs ≤ length out → laid xs out ≡ xs ++ drop (length xs) out
 unfolding laid
@@ -96,3 +69,43 @@ laid_behind zero (x ∷ xs) ys (y ∷ out) e = absurd (omega arith)
 laid_behind (suc k) [] ys out e = absurd (omega arith)
 laid_behind (suc k) (x ∷ xs) ys [] e = absurd (omega arith)
 laid_behind (suc k) (x ∷ xs) ys (y ∷ out) e = ap (λ (z : List ℕ). x ∷ z) (laid_behind k xs ys out (omega arith))
+
+-- four tokens at a time, of as many as there are cells; and the last ones
+module _ (xs out : List ℕ) {n : ℕ} (e : n ≡ min (length xs) (length out)) where
+  abbrev fit : List ℕ
+  fit = take n xs
+
+  long : length fit ≡ n
+  long = length-take-le n xs (omega arith)
+
+  pub laid_four : (k : ℕ) (fours : List (List ℕ)) → fours ≡ first_chunks 4 (length fit / 4) fit → k < length fit / 4
+      → set (set (set (set (laid (take (4 * k) fit) out) (4 * k) (get_or (get_or fours k []) 0 0)) (4 * k + 1) (get_or (get_or fours k []) 1 0)) (4 * k + 2) (get_or (get_or fours k []) 2 0)) (4 * k + 3) (get_or (get_or fours k []) 3 0)
+      ≡ laid (take (4 * (k + 1)) fit) out
+  laid_four k fours c l =
+      let next : 4 * (k + 1) ≡ 4 * k + 4 = omega arith in
+      rw (next, read 0 (4 * k) (omega arith) (omega arith), read 1 _ (omega arith) refl, read 2 _ (omega arith) refl, read 3 _ (omega arith) refl)
+      (laid_fours fit out (4 * k) (omega arith))
+    where
+      read : (j i : ℕ) → j < 4 → 4 * k + j ≡ i → get_or (get_or fours k []) j 0 ≡ get_or fit i 0
+      read j i b q =
+          ap (λ (x : List (List ℕ)). get_or (get_or x k []) j 0) c
+          ∙ ap (λ (x : List ℕ). get_or x j 0) (block_is 4 (length fit / 4) k fit l)
+          ∙ get_or-take 4 (drop (4 * k) fit) j 0 b
+          ∙ get_or-drop (4 * k) fit j 0
+          ∙ ap (λ (m : ℕ). get_or fit m 0) q
+
+  pub laid_last : (few : List ℕ) → few ≡ drop (length fit / 4 * 4) fit → length few ≡ length fit % 4 → (k : ℕ) → k ≡ length fit / 4
+      → {cells last : List ℕ} → cells ≡ laid (take (4 * k) fit) out → last ≡ laid few (take (length cells - (n - length few)) (drop (n - length few) cells))
+      → put_mid (n - length few) (length cells - (n - length few)) cells last ≡ laid xs out
+  laid_last few r m k q {cells} {last} c l =
+      let a : ℕ = n - length few in
+      let here : length fit / 4 * 4 ≡ a = omega (arith, long) in
+      let front : 4 * k ≡ a = omega (arith, long) in
+      let size : length (take a fit) ≡ a = length-take-le a fit (omega (arith, long)) in
+      let rest : few ≡ drop a fit = r ∙ ap (λ (j : ℕ). drop j fit) here in
+      back_rest a cells last
+      ∙ ap (λ (x : List ℕ). take a cells ++ x) (l ∙ ap (laid few) (part_rest a cells))
+      ∙ ap (λ (x : List ℕ). take a x ++ laid few (drop a x)) (c ∙ ap (λ (j : ℕ). laid (take j fit) out) front)
+      ∙ laid_behind a (take a fit) few out (omega arith)
+      ∙ ap (λ (x : List ℕ). laid x out) (ap (λ (x : List ℕ). take a fit ++ x) rest ∙ take-append-drop a fit)
+      ∙ laid_enough n xs out (omega arith)

@@ -5,13 +5,13 @@ use native.Mathlib.Nat.{one-mul}
 use native.Mathlib.Omega.{arith}
 use lib.Bits.{bit_or}
 use lib.Pow.{shl_exact}
-use borrow.Author.Tests.{eqb-true, eqb-false, not-true, not-false, eq-eqb, ne_eqb}
+use borrow.Author.Tests.{eqb-false, not-true, not-false, eq-eqb, ne_eqb}
 use Rattle.rules.specs.Lists.{ℕ, ◌+◌, ◌*◌, ◌-◌, ◌%◌, Bool, true, false, cond, eqb, List, [], ◌∷◌, length, get_or, is_in, among, first_of, place_of, first_absent}
 use Rattle.rules.proofs.Searching.{nowhere}
 use Rattle.laws.proofs.Loops.{list_next}
 use Rattle.laws.proofs.Runs.{place_le}
 use Rattle.tokens.specs.Marks.{marked, found}
-use Rattle.tokens.proofs.marking.Finding.{same_found, Seeking, seeking_none, seeking_end, seeking_few, seeking_more, where_equal, where_unequal}
+use Rattle.tokens.proofs.marking.Finding.{Seeking, seeking_none, seeking_few, seeking_more, where_equal, where_unequal}
 
 -- ---- one token
 module _ (list : List ℕ) (t m : ℕ) {p : ℕ} (e : p ≡ place_of t list) where
@@ -49,15 +49,6 @@ none_more d true = omega arith
 none_more d false = refl
 
 module _ {list ts : List ℕ} {m n dead gone marks k : ℕ} (s : Counting list ts m n dead gone marks k) where
-  pub counting_end : n ≡ length ts → length ts ≤ k → record { dead = dead; living = n - gone; marks = marks } ≡ found list ts m
-  counting_end e l =
-      let all : n ≡ k = omega (arith, s.so_far.within) in
-      same_found _ _ _ _ _ _ (go (eqb gone 0) refl) (ap (λ (x : ℕ). x - gone) all) refl ∙ seeking_end s.so_far l
-    where
-      go : (t : Bool) → eqb gone 0 ≡ t → dead ≡ cond t k dead
-      go true q = s.none (eqb-true gone 0 q) ∙ omega (arith, e, l, s.so_far.within)
-      go false q = refl
-
   module _ (l : k < length ts) {p : ℕ} (e : p ≡ place_of (get_or ts k 0) list) (dead' gone' marks' : ℕ) where
     pub counting_living : p < length list → p < 32 → dead' ≡ dead → gone' ≡ gone → marks' ≡ bit_or marks (1 * 2 ^ p % 4294967296)
         → Counting list ts m n dead' gone' marks' (k + 1)

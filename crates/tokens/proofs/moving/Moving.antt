@@ -1,14 +1,13 @@
--- Cells moved within a list, one by one: behind those moved already, or before them.
-use mathlib.Core.Path.{◌≡◌, refl, sym, ap, ◌∙◌}
+-- Cells moved within a list, one by one or four at once: behind those moved already, or before them.
+use mathlib.Core.Path.{◌≡◌, sym, ap, ◌∙◌}
 use mathlib.Core.List.{append_assoc}
-use mathlib.Core.Logic.{◌⊎◌, inl, inr, ⊎_elim}
+use mathlib.Core.Logic.{◌⊎◌, inl, inr}
 use Prim.Native.Nat.{◌≤◌, ◌<◌}
 use native.Mathlib.Numerals.{add-one}
 use native.Mathlib.Omega.{arith}
 use lib.ListN.{set, length-drop, get_or-append}
 use lib.Seq.{take-suc, take_at, take-take, take-add, drop-cons, drop-drop, length-take-le, get_or-take, get_or-drop, set_at, set_split, paste, paste-zero, paste-suc, take-paste, drop-paste}
-use Rattle.rules.specs.Lists.{ℕ, suc, ◌+◌, ◌-◌, min, List, ◌∷◌, ◌++◌, length, take, drop, get_or}
-use Rattle.rules.proofs.Tests.{below}
+use Rattle.rules.specs.Lists.{ℕ, suc, ◌+◌, ◌-◌, List, ◌∷◌, ◌++◌, length, take, drop, get_or}
 use Rattle.laws.proofs.Runs.{drop_take}
 use Rattle.tokens.specs.Moved.{moved, Forth}
 
@@ -33,7 +32,7 @@ moved_elsewhere from n to l hf ht k (inr b) =
     rw place at (simp get_or-drop at (ap (λ (x : List ℕ). get_or x (k - (to + n)) 0) behind))
 
 -- ---- all read before one is written
-pub one_moved : (from to : ℕ) (l : List ℕ) → from < length l → to < length l → set l to (get_or l from 0) ≡ moved from 1 to l
+one_moved : (from to : ℕ) (l : List ℕ) → from < length l → to < length l → set l to (get_or l from 0) ≡ moved from 1 to l
 unfolding moved
 one_moved from to l f t = set_split l to (get_or l from 0) t ∙ sym (rw (add-one to, drop-cons l from 0))
 
@@ -89,7 +88,7 @@ moved_front : (from n to : ℕ) (l : List ℕ) → to ≤ length l → take to (
 unfolding moved
 moved_front from n to l h = take_at (take to l) _ to (length-take-le to l h)
 
-pub moved_more : (from i to k : ℕ) (l : List ℕ) → Forth (length l) from (i + k) to → moved (from + i) k (to + i) (moved from i to l) ≡ moved from (i + k) to l
+moved_more : (from i to k : ℕ) (l : List ℕ) → Forth (length l) from (i + k) to → moved (from + i) k (to + i) (moved from i to l) ≡ moved from (i + k) to l
 moved_more from i to k l f = put_behind from i to k l (moved from i to l) head (part f.apart) (past k)
   where
     enough : i ≤ length (drop from l)
@@ -108,33 +107,14 @@ moved_more from i to k l f = put_behind from i to k l (moved from i to l) head (
     part (inl h) = let e : to + i + (from - to) ≡ from + i = omega arith in ap (take k) (rw e at (past (from - to)))
     part (inr h) = same_front (moved from i to l) l to (from + i) k (moved_front from i to l (omega (arith, f.target))) (omega arith)
 
--- ---- the last cells, at most three, each moved where there is one
-module _ (from n to : ℕ) (l : List ℕ) (f : Forth (length l) from n to) where
-  abbrev One : List ℕ → List ℕ → ℕ → Type 0
-  One xs new i = (i < n → new ≡ moved (from + i) 1 (to + i) xs) × (n ≤ i → new ≡ xs)
-
-  one_more : (i k j : ℕ) (xs new : List ℕ) → k ≡ min i n → j ≡ min (i + 1) n → One xs new i → xs ≡ moved from k to l → new ≡ moved from j to l
-  one_more i k j xs new ek ej one p =
-      ⊎_elim
-      (λ (b : i < n).
-      let k_i : k ≡ i = omega arith in
-      let i_j : i + 1 ≡ j = omega arith in
-      one.0 b
-      ∙ ap (moved (from + i) 1 (to + i)) (p ∙ upto k_i)
-      ∙ moved_more from i to 1 l (forth_less f (i + 1) (omega arith))
-      ∙ upto i_j)
-      (λ (b : n ≤ i). let k-j : k ≡ j = omega arith in one.1 b ∙ p ∙ upto k-j)
-      (below i n)
-    where
-      upto : {a b : ℕ} → a ≡ b → moved from a to l ≡ moved from b to l
-      upto q = ap (λ (m : ℕ). moved from m to l) q
-
-  pub moved_last : (r : ℕ) (xs₀ xs₁ xs₂ xs₃ : List ℕ) → r ≤ n → n < r + 4 → xs₀ ≡ moved from r to l
-      → One xs₀ xs₁ r → One xs₁ xs₂ (r + 1) → One xs₂ xs₃ (r + 2) → xs₃ ≡ moved from n to l
-  moved_last r xs₀ xs₁ xs₂ xs₃ b u p x y z =
-      one_more (r + 2) (min (r + 2) n) n xs₂ xs₃ refl (omega arith) z
-      (one_more (r + 1) (min (r + 1) n) (min (r + 2) n) xs₁ xs₂ refl (omega arith) y
-      (one_more r r (min (r + 1) n) xs₀ xs₁ (omega arith) refl x p))
+-- so that all of them are moved in the end
+pub moved_then : (from i to k n : ℕ) (l : List ℕ) → Forth (length l) from n to → i + k ≡ n
+    → {xs new : List ℕ} → xs ≡ moved from i to l → new ≡ moved (from + i) k (to + i) xs → new ≡ moved from n to l
+moved_then from i to k n l f e p q =
+    q
+    ∙ ap (moved (from + i) k (to + i)) p
+    ∙ moved_more from i to k l (forth_less f (i + k) (omega arith))
+    ∙ ap (λ (m : ℕ). moved from m to l) e
 
 -- one cell more, before those moved
 pub moved_before : (from n to : ℕ) (l : List ℕ) → from ≤ to → to + n < length l

@@ -4,7 +4,6 @@ use Rattle.rules.proofs.Determined.{Determined, determined}
 use Rattle.tokens.proofs.searching.first_hit.Reads as first_hit_call
 use Rattle.tokens.proofs.searching.place_of.Reads as place_of_call
 use Rattle.tokens.proofs.searching.is_in.Reads as is_in_call
-use Rattle.tokens.proofs.searching.smaller.Reads as smaller_call
 use Rattle.tokens.proofs.searching.is_among.Reads as is_among_call
 use Rattle.tokens.proofs.searching.all_different.Reads as all_different_call
 use Rattle.tokens.proofs.searching.is_blank.Reads as is_blank_call
@@ -18,9 +17,6 @@ place_of_determined κs a = determined _ _ _ (λ z e p. p)
 
 is_in_determined : (κs : _) (a : _) → Determined (is_in_call.Learnt κs a) (λ z e. z)
 is_in_determined κs a = determined _ _ _ (λ z e p. p)
-
-smaller_determined : (κs : _) (a : _) → Determined (smaller_call.Learnt κs a) (λ z e. z)
-smaller_determined κs a = determined _ _ _ (λ z e p. p)
 
 is_among_determined : (κs : _) (a : _) → Determined (is_among_call.Learnt κs a) (λ z e. z)
 is_among_determined κs a = determined _ _ _ (λ z e p. p)

@@ -1,7 +1,7 @@
 -- Parts of a list, cut where the list ends.
-use mathlib.Core.Path.{◌≡◌, sym, ap}
+use mathlib.Core.Path.{◌≡◌, ap}
 use native.Mathlib.Omega.{arith}
-use lib.Seq.{take-nil, drop-nil, length-take-le}
+use lib.Seq.{take-nil, drop-nil}
 use Rattle.rules.specs.Lists.{ℕ, zero, suc, min, List, [], ◌∷◌, length, take, drop}
 
 pub take_least : (n m : ℕ) (xs : List ℕ) → m ≡ min n (length xs) → take m xs ≡ take n xs
@@ -15,6 +15,3 @@ drop_least zero m xs e = let z : m ≡ 0 = omega arith in ap (λ (i : ℕ). drop
 drop_least (suc n) m [] e = drop-nil m
 drop_least (suc n) zero (x ∷ xs) e = absurd (omega arith)
 drop_least (suc n) (suc m) (x ∷ xs) e = drop_least n m xs (omega arith)
-
-pub least_size : (n m : ℕ) (xs : List ℕ) → m ≡ min n (length xs) → m ≡ length (take m xs)
-least_size n m xs e = sym (length-take-le m xs (omega arith))

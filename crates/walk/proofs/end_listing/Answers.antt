@@ -1,12 +1,10 @@
 -- Two dozen lines fit the buffer, and what is shown is the accounts.
-use Rattle.std.proofs.Common.{arith}
 use Rattle.listing.proofs.text.Writing.{in_front}
 use Rattle.walk.proofs.Walked.{book_long}
 use Rattle.walk.proofs.end_listing.Goals as goal
 
-pub put_accounts-end-requires : goal.put_accounts-end-requires
-put_accounts-end-requires g c =
-    (omega arith, omega arith, book_long _ _ _ c.requires.reached, omega (arith, c.buffer-lines.ensures))
+pub invariant_of-whole-clause-long : goal.invariant_of-whole-clause-long
+invariant_of-whole-clause-long g c = book_long _ _ _ c.requires.reached
 
 pub show_accounts-requires : goal.show_accounts-requires
 show_accounts-requires g c =

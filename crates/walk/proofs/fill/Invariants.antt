@@ -1,9 +1,9 @@
--- n bytes stand in front, and no more than there is room for.
+-- So many bytes stand in front, and no more than there is room for.
 use Rattle.std.proofs.Common.{length, ◌-◌, ◌≤◌}
 use Rattle.walk.proofs.fill.Given as goal
 
-abbrev pub invariant-loop-n : goal.invariant-loop-n
-invariant-loop-n g l = l.n ≤ length l.out
+abbrev pub invariant-loop-bytes : goal.invariant-loop-bytes
+invariant-loop-bytes g l = l.bytes ≤ length l.out
 
-abbrev pub decreases-loop-n : goal.decreases-loop-n
-decreases-loop-n g l = length l.initial.out - l.n
+abbrev pub decreases-loop-bytes : goal.decreases-loop-bytes
+decreases-loop-bytes g l = length l.initial.out - l.bytes

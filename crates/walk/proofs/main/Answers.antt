@@ -6,4 +6,4 @@ use Rattle.walk.proofs.main.Goals as goal
 
 pub walk-requires : goal.walk-requires
 walk-requires c =
-    begins _ _ _ (c.load_list-n.ensures c.if-n-gt4096.false) (length-replicate {A = ℕ} 6372 0) c.make_empty.ensures.cells
+    begins _ _ _ c.in-Some.ensures.1 (length-replicate {A = ℕ} 6372 0) c.make_empty.ensures.cells

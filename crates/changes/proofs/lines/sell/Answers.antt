@@ -15,8 +15,8 @@ overflow_add-count c =
 
 pub overflow_add-sales : goal.overflow_add-sales
 overflow_add-sales c =
-    let l : c.word_of-sales.result + c.smaller-one.result ≤ most_sales + 1 =
-    sales_fit _ _ _ _ _ c.requires _ _ c.word_of-sales.ensures c.smaller-one.ensures in
+    let l : c.word_of-sales.result + c.min.result ≤ most_sales + 1 =
+    sales_fit _ _ _ _ _ c.requires _ _ c.word_of-sales.ensures c.min.ensures in
     search rules
 
 pub overflow_sub-n : goal.overflow_sub-n
@@ -28,13 +28,13 @@ keep_rest-requires c =
     let a = c.args in
     let waits =
     carnet_waits (form_of a.form) a.book.now a.carnet a.line a.n c.requires _ _ _ _ _
-    c.word_of-count.ensures c.word_of-sales.ensures c.smaller-one.ensures
-    c.put_sale.ensures c.write_head.ensures _ _ c.word_of-held.ensures c.smaller-m.ensures in
+    c.word_of-count.ensures c.word_of-sales.ensures c.min.ensures
+    c.put_sale.ensures c.write_head.ensures _ _ c.word_of-held.ensures c.min-m.ensures in
     (search rules, waits.0, waits.1, waits.2)
 
 pub returns : goal.returns
 returns c =
     let a = c.args in
     sale_sold (form_of a.form) a.book.now a.carnet a.line a.n c.requires _ _ _ _ _
-    c.word_of-count.ensures c.word_of-sales.ensures c.smaller-one.ensures
+    c.word_of-count.ensures c.word_of-sales.ensures c.min.ensures
     c.put_sale.ensures c.write_head.ensures _ c.keep_rest.ensures

@@ -1,30 +1,28 @@
--- Each refusal breaks a part of what the list's own index has; the first i tokens have their ways.
-use Rattle.std.proofs.Common.{sym, ◌∙◌, arith}
-use Rattle.index.proofs.checking.Checking.{wrong_ring, too_many, wrong_count, check_first, no_way, check_more, check_end}
+-- Each refusal breaks a part of what the list's own index has; with the other parts it is one where each token has its way.
+use mathlib.Core.Path.{refl, ◌∙◌}
+use native.Mathlib.Omega.{arith}
+use borrow.Author.Rules.{rules}
+use borrow.Author.Tests.{tests}
+use Rattle.std.proofs.lemmas.Iterator.{YieldsList-from_range}
+use Rattle.std.proofs.lemmas.Iterator.Search.{all_from_yields_List}
+use Rattle.ring.specs.Way.{way_of}
+use Rattle.index.proofs.Every.{every_within}
+use Rattle.index.proofs.checking.Checking.{wrong_ring, too_many, wrong_count, ways_checked}
+use Rattle.index.proofs.checking.is_index.Goals.{then-index-ne8192-via-then-index-ne8192, then-index-ne8192-via-else-index-ne8192+then-list-gt4096}
 use Rattle.index.proofs.checking.is_index.Goals as goal
 
 pub returns-then-index-ne8192 : goal.returns-then-index-ne8192
-returns-then-index-ne8192 c = wrong_ring _ _ c.if-index-ne8192.true
+returns-then-index-ne8192 c =
+    elim c.then-index-ne8192.branch [
+      | then-index-ne8192-via-then-index-ne8192 w ↦ wrong_ring _ _ w.if-index-ne8192.true
+      | then-index-ne8192-via-else-index-ne8192+then-list-gt4096 w ↦ too_many _ _ w.if-list-gt4096.true
+    ]
 
-pub returns-then-list-gt4096 : goal.returns-then-list-gt4096
-returns-then-list-gt4096 c = too_many _ _ c.if-list-gt4096.true
-
-pub returns-then-wide-list : goal.returns-then-wide-list
-returns-then-wide-list c = wrong_count _ _ (λ e. omega (arith, e, c.if-wide-list.true, c.wide.ensures.0, c.empties.ensures))
-
-pub loop-i-init : goal.loop-i-init
-loop-i-init c =
-    check_first _ _ c.if-index-ne8192.false c.if-list-gt4096.false
-    (omega (arith, c.empties.ensures, c.wide.ensures.0, c.if-wide-list.false))
-
-pub returns-then-not-has_way : goal.returns-then-not-has_way
-returns-then-not-has_way c =
-    no_way _ _ _ c.loop-i-test.true (sym c.has_way.ensures ∙ c.if-not-has_way.true)
-
-pub loop-i-preserved : goal.loop-i-preserved
-loop-i-preserved c =
-    check_more _ _ _ c.loop-i.invariant c.loop-i-test.true
-    (sym c.has_way.ensures ∙ c.if-not-has_way.false)
+pub returns-then-from-list : goal.returns-then-from-list
+returns-then-from-list c = wrong_count _ _ (λ e. omega (arith, e, c.if-from-list.true, c.from.ensures, c.empties.ensures))
 
 pub returns : goal.returns
-returns c = check_end _ _ _ c.loop-i.invariant c.loop-i-test.false
+returns c =
+    all_from_yields_List (way_of c.args.list.now c.args.index.now) _ _ _ c.all.ensures.ran (YieldsList-from_range 0 _ _ refl (omega arith)) (λ x b q k. search (rules, tests))
+    ∙ every_within _ _ _
+    ∙ ways_checked _ _ c.if-index-ne8192.false c.if-list-gt4096.false (omega (arith, c.empties.ensures, c.from.ensures, c.if-from-list.false))

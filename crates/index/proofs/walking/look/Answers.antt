@@ -10,9 +10,7 @@ pub bounds-index-p : goal.bounds-index-p
 bounds-index-p c = omega (arith, c.seek-p.ensures.inside, (index_walkable _ _ c.requires).sized)
 
 pub returns-then-e-eq0 : goal.returns-then-e-eq0
-returns-then-e-eq0 c =
-    look_none c.requires c.seek-p.ensures c.wide-e.ensures.0 c.if-e-eq0.true
+returns-then-e-eq0 c = look_none c.requires c.seek-p.ensures c.from-e.ensures c.if-e-eq0.true
 
 pub returns : goal.returns
-returns c =
-    look_some c.requires c.seek-p.ensures c.wide-e.ensures.0 c.if-e-eq0.false
+returns c = look_some c.requires c.seek-p.ensures c.from-e.ensures c.if-e-eq0.false

@@ -1,24 +1,16 @@
--- k entries are passed, and the rest is the walk along what is left of the round, which is the measure.
-use Rattle.std.proofs.Common.{◌+◌, ◌%◌, inl, inr, arith}
-use Rattle.rules.specs.Index.{ring}
-use Rattle.index.proofs.walking.Seeking.{seek_first, seek_next, seek_end}
+-- The walk went from its start on to n over entries of others, and what is left of the round is the measure.
+use Rattle.std.proofs.Common.{inl, inr}
+use Rattle.index.proofs.walking.Seeking.{seek_next, seek_end}
+use Rattle.index.proofs.walking.seek.Goals.{then-e-eq0-via-then-e-eq0, then-e-eq0-via-else-e-eq0+then-list-e}
 use Rattle.index.proofs.walking.seek.Goals as goal
-
-pub loop-p-init : goal.loop-p-init
-loop-p-init c = seek_first _ _ _ _ c.start-s.ensures.0 c.start-s.ensures.1
-
-pub bounds-list-e : goal.bounds-list-e
-bounds-list-e c =
-    omega (arith, c.wide-e.ensures.0, c.requires.small ((c.start-s.result + c.loop-p.k) % ring), c.if-e-eq0.false)
-
-pub loop-p-preserved : goal.loop-p-preserved
-loop-p-preserved c =
-    seek_next c.requires c.loop-p.invariant c.wide-e.ensures.0 c.if-e-eq0.false c.if-list-e.false
 
 pub returns-then-e-eq0 : goal.returns-then-e-eq0
 returns-then-e-eq0 c =
-    seek_end c.requires c.loop-p.invariant c.wide-e.ensures.0 (inl c.if-e-eq0.true)
+    seek_end c.requires c.loop-token.invariant c.from-e.ensures
+    (elim c.then-e-eq0.branch [
+      | then-e-eq0-via-then-e-eq0 w ↦ inl w.if-e-eq0.true
+      | then-e-eq0-via-else-e-eq0+then-list-e w ↦ inr w.if-list-e.true
+    ])
 
-pub returns-then-list-e : goal.returns-then-list-e
-returns-then-list-e c =
-    seek_end c.requires c.loop-p.invariant c.wide-e.ensures.0 (inr c.if-list-e.true)
+pub loop-token-preserved : goal.loop-token-preserved
+loop-token-preserved c = seek_next c.requires c.loop-token.invariant c.from-e.ensures c.if-e-eq0.false c.if-list-e.false

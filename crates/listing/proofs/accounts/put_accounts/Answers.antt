@@ -8,8 +8,5 @@ loop-p-init c = starts _ _ _
 pub loop-p-preserved : goal.loop-p-preserved
 loop-p-preserved c = goes_on _ _ _ _ _ _ c.loop-p.invariant c.loop-p-test.true _ _ c.put_account-end.auto.out c.put_account-end.ensures
 
-pub shape_of-out : goal.shape_of-out
-shape_of-out c = c.loop-p.invariant.long
-
 pub returns : goal.returns
-returns c = ends _ _ _ _ _ _ c.loop-p.invariant c.loop-p-test.false c.requires.2
+returns c = ends _ _ _ _ _ _ c.loop-p.invariant c.loop-p-test.false c.args.book.long

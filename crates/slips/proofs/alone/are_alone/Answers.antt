@@ -1,24 +1,21 @@
--- The test of all slips is the test of those left.
-use mathlib.Core.Path.{sym, ◌∙◌}
-use Prim.Native.Nat.{◌+◌, ◌*◌}
+-- Each slip of the line is asked.
+use mathlib.Core.Path.{refl, ◌∙◌}
 use native.Mathlib.Omega.{arith}
-use Rattle.laws.proofs.Pairs.{behind_all, behind_end, behind_no, behind_yes}
-use Rattle.slips.proofs.alone.Begun.{alone_each}
+use borrow.Author.Rules.{rules}
+use Rattle.std.proofs.lemmas.Iterator.{YieldsList-from_range}
+use Rattle.std.proofs.lemmas.Iterator.Search.{all_from_yields_List}
+use Rattle.rules.specs.Hall.{carnets, lines}
+use Rattle.sound.specs.Together.{held_in}
+use Rattle.slips.specs.Alone.{begun_in}
+use Rattle.slips.proofs.alone.Begun.{alone_slip, alone_each}
 use Rattle.slips.proofs.alone.are_alone.Goals as goal
 
-pub loop-i-init : goal.loop-i-init
-loop-i-init c = behind_all (alone_each _ _ _) _ _
-
-pub overflow_cast-pairs : goal.overflow_cast-pairs
-overflow_cast-pairs c = omega (arith, c.type_inv.pairs (2 * c.loop-i.i + 1))
-
-pub returns-then-not-is_alone : goal.returns-then-not-is_alone
-returns-then-not-is_alone c =
-    behind_no (alone_each _ _ _) _ _ c.loop-i.i c.loop-i.invariant c.loop-i-test.true (sym c.is_alone.ensures ∙ c.if-not-is_alone.true)
-
-pub loop-i-preserved : goal.loop-i-preserved
-loop-i-preserved c =
-    behind_yes (alone_each _ _ _) _ _ c.loop-i.i c.loop-i.invariant c.loop-i-test.true (sym c.is_alone.ensures ∙ c.if-not-is_alone.false)
-
 pub returns : goal.returns
-returns c = behind_end (alone_each _ _ _) _ _ _ c.loop-i.invariant c.loop-i-test.false
+returns c =
+    let book = c.args.book in
+    let ts = c.args.list.now in
+    let carried = held_in book.pages.now (carnets book.hall) in
+    let begun = begun_in book.pages.now (lines book.hall) in
+    let s = c.slips_at-n.result in
+    all_from_yields_List (alone_slip ts carried begun s.1.now) _ _ _ c.all.ensures.ran (YieldsList-from_range 0 s.0 s.0 refl (omega arith)) (λ x b q k. search rules)
+    ∙ alone_each ts carried begun s.1.now s.0 ∙ rw (c.slips_at-n.ensures.0, c.slips_at-n.ensures.1)

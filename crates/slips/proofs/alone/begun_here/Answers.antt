@@ -1,17 +1,25 @@
--- What is counted so far, with what the slips left would add, is the count of all.
-use Rattle.slips.proofs.alone.Begun.{begun_none, begun_hit, begun_miss, begun_all}
-use Rattle.slips.proofs.alone.begun_here.Goals.{then-pairs-i, else-pairs-i}
+-- Each slip that begins with the token counts for one.
+use mathlib.Core.Path.{◌∙◌}
+use native.Mathlib.Omega.{arith}
+use borrow.Author.Rules.{rules}
+use Rattle.std.specs.List.{range_with_len}
+use Rattle.std.proofs.lemmas.Iterator.{YieldsList-from_range, YieldsList-from_map}
+use Rattle.std.proofs.lemmas.Iterator.Consumers.{sum_by_from_yields_List, fits_by_from_yields_list}
+use Rattle.slips.proofs.alone.Begun.{hit, begun_all, begun_few}
 use Rattle.slips.proofs.alone.begun_here.Goals as goal
 
-pub loop-i-init : goal.loop-i-init
-loop-i-init c = begun_none _ _ _
-
-pub loop-i-preserved : goal.loop-i-preserved
-loop-i-preserved c =
-    elim c.if-pairs-i.branch [
-      | then-pairs-i w ↦ begun_hit _ _ _ c.loop-i.hits c.loop-i.i c.loop-i.invariant c.loop-i-test.true w.if-pairs-i.true _ w.hits-is
-      | else-pairs-i w ↦ begun_miss _ _ _ c.loop-i.hits c.loop-i.i c.loop-i.invariant c.loop-i-test.true w.if-pairs-i.false _ w.hits-is
-    ]
+pub sum-requires-clause-fits : goal.sum-requires-clause-fits
+sum-requires-clause-fits c =
+    let t = c.args.token in
+    let s = c.slips_at-n.result in
+    fits_by_from_yields_list (hit t s.1.now) (range_with_len 0 s.0) _ _
+    (YieldsList-from_map _ (hit t s.1.now) (YieldsList-from_range 0 s.0 s.0 c.map.ensures.source (omega arith)) c.map.ensures.closure (λ x b q k. search rules))
+    (omega (arith, begun_few t s.1.now s.0, c.slips_at-n.ensures.0))
 
 pub returns : goal.returns
-returns c = begun_all _ _ _ _ _ c.loop-i.invariant c.loop-i-test.false
+returns c =
+    let t = c.args.token in
+    let s = c.slips_at-n.result in
+    sum_by_from_yields_List (hit t s.1.now) (range_with_len 0 s.0) _ _ c.sum.ensures.ran
+    (YieldsList-from_map _ (hit t s.1.now) (YieldsList-from_range 0 s.0 s.0 c.map.ensures.source (omega arith)) c.map.ensures.closure (λ x b q k. search rules))
+    ∙ begun_all t s.1.now s.0 ∙ rw (c.slips_at-n.ensures.0, c.slips_at-n.ensures.1)

@@ -6,7 +6,4 @@ use Rattle.slips.proofs.marked.mark_records.Given as goal
 
 abbrev pub invariant-loop-i : goal.invariant-loop-i
 invariant-loop-i l =
-    Onward l.initial.map (places_of l.list (held_in l.book (range l.a l.n))) l.map l.fresh (places_of l.list (held_in l.book (range (l.a + l.i) (l.n - l.i))))
-
-abbrev pub decreases-loop-i : goal.decreases-loop-i
-decreases-loop-i l = l.n - l.i
+    Onward l.initial.map (places_of l.listed.list.now (held_in l.book (range l.a l.n))) l.map l.fresh (places_of l.listed.list.now (held_in l.book (range (l.a + l.i) (l.n - l.i))))

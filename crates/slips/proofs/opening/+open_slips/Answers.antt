@@ -7,10 +7,10 @@ returns-then-left-eq0 t c = slips_none _ _ _ _ c.if-left-eq0.true
 
 pub returns : goal.returns
 returns t c =
-    slips_laid c.args.list.now c.args.pairs.now c.args.left _ _ c.args.out.now _ _
+    slips_laid c.args.listed.now.list.now c.args.pairs.now c.args.left _ _ c.args.out.now _ _
     c.if-left-eq0.false
     c.part_by-tokens.ensures
     c.lay.ensures
     c.lay.auto.out
-    c.smaller-m.ensures
+    c.min-m.ensures
     c.open_slips.ensures

@@ -5,16 +5,16 @@ use Rattle.slips.proofs.opening.open_line.Goals as goal
 
 pub open_slips-requires : goal.open_slips-requires
 open_slips-requires c =
-    (pairs_fit c.args.rec.now _ c.smaller-n.result c.requires.0 (omega (arith, c.smaller-n.ensures)) c.cells.ensures, c.requires.2)
+    pairs_fit c.args.rec.now _ c.min-n.result c.requires.0 (omega (arith, c.min-n.ensures)) c.cells.ensures
 
 pub returns : goal.returns
 returns c =
-    line_opened c.args.list.now c.args.rec.now _ _ _ _ _ _ _ _ c.requires.0
+    line_opened c.args.listed.list.now c.args.rec.now _ _ _ _ _ _ _ _ c.requires.0
     c.in_use.ensures
     c.amount.ensures
     c.count.ensures
     c.sales-sales.ensures
     c.write_record.ensures
-    c.smaller-n.ensures
+    c.min-n.ensures
     c.cells.ensures
     c.open_slips.ensures

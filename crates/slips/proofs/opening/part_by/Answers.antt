@@ -5,7 +5,7 @@ use Rattle.slips.proofs.opening.Opening.{slip_taken}
 use Rattle.slips.proofs.opening.part_by.Goals as goal
 
 pub part_from-requires : goal.part_from-requires
-part_from-requires c = let a = c.args in omega (arith, c.place_of-p.ensures, place_le a.token a.list.now)
+part_from-requires c = let a = c.args in omega (arith, c.place_of.ensures, place_le a.token a.listed.list.now)
 
 pub returns : goal.returns
-returns c = slip_taken _ _ _ _ _ c.place_of-p.ensures c.part_from.ensures
+returns c = slip_taken _ _ _ _ _ c.place_of.ensures c.part_from.ensures

@@ -18,15 +18,14 @@ is_line_good-requires c = (
   block_size words (c.args.a + c.loop-i.i) c.args.book.now _ (omega arith) c.record_at.ensures,
   c.requires.1,
   c.requires.2,
-  c.requires.3,
-  mapped_too _ _ c.loop-i.invariant.size c.requires.4,
+  mapped_too _ _ c.loop-i.invariant.size c.requires.3,
 )
 
 pub returns-then-not-is_line_good : goal.returns-then-not-is_line_good
 returns-then-not-is_line_good c =
     let failed =
-    line_no _ _ _ _ _ _ c.loop-i.invariant c.loop-i-test.true c.record_at.ensures c.is_line_good.ensures
-    {after' = []} (c.if-not-is_line_good.true) in
+    (line_no _ _ _ _ _ _ c.loop-i.invariant c.loop-i-test.true c.record_at.ensures c.is_line_good.ensures
+    {after' = []} (c.if-not-is_line_good.true)) in
     record {
       answer = failed.answer;
       cells = c.wipe.ensures ∙ ap (λ (n : ℕ). replicate n 0) (c.is_line_good.auto.map ∙ c.loop-i.invariant.size);

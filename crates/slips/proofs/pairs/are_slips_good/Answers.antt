@@ -17,7 +17,7 @@ returns-then-p-d c =
 
 pub mark_run-requires : goal.mark_run-requires
 mark_run-requires c = (
-  mapped_too _ _ c.loop-i.invariant.size c.requires.4,
+  mapped_too _ _ c.loop-i.invariant.size c.requires.3,
   slip_inside _ _ _ _ _ _ _ c.loop-i.invariant c.loop-i-test.true c.slip_place-p.ensures c.requires.1 c.requires.2 c.if-p-d.false,
 )
 

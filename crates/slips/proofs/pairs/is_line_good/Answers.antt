@@ -30,20 +30,20 @@ returns-then-count-slip_sum c =
 
 pub are_slips_good-requires : goal.are_slips_good-requires
 are_slips_good-requires c =
-    (fit (goal.at.are_slips_good-requires c).After-cells-pairs, c.requires.1, c.requires.2, c.requires.3, c.requires.4)
+    (fit (goal.at.are_slips_good-requires c).After-cells-pairs, c.requires.1, c.requires.2, c.requires.3)
 
-pub returns-then-not-are_slips_good : goal.returns-then-not-are_slips_good
-returns-then-not-are_slips_good c =
-    line_slips_fail _ _ _ _ c.sales-k.ensures c.count.ensures c.cells-pairs.ensures c.are_slips_good.ensures (c.if-not-are_slips_good.true)
+pub returns-else-are_slips_good : goal.returns-else-are_slips_good
+returns-else-are_slips_good c =
+    line_slips_fail _ _ _ _ c.sales-k.ensures c.count.ensures c.cells-pairs.ensures c.are_slips_good.ensures c.if-are_slips_good.false
 
 pub slice_bounds-is_blank-count : goal.slice_bounds-is_blank-count
 slice_bounds-is_blank-count c = fit (goal.at.slice_bounds-is_blank-count c).After-cells-pairs
 
-pub returns : goal.returns
-returns c =
+pub returns-then-are_slips_good : goal.returns-then-are_slips_good
+returns-then-are_slips_good c =
     line_decides _ _ _ _ c.sales-k.ensures c.count.ensures c.cells-pairs.ensures c.are_slips_good.ensures
     (sym c.is_fine.ensures ∙ c.if-not-is_fine.false)
     c.if-k-gt16.false
     (c.if-count-slip_sum.false ∙ c.slip_sum.ensures)
-    (c.if-not-are_slips_good.false)
+    c.if-are_slips_good.true
     (c.is_blank.ensures ∙ ap all_zero (part_rest (2 * c.sales-k.result) c.cells-pairs.result.now))

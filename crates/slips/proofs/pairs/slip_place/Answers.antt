@@ -26,13 +26,13 @@ returns-then-n-gt32 c =
 pub overflow_add-p : goal.overflow_add-p
 overflow_add-p c =
     let s = c.args in
-    omega (arith, c.place_of-p.ensures, place_le s.token s.list.now)
+    omega (arith, c.place_of-p.ensures, place_le s.token s.listed.list.now)
 
 pub returns-then-d-p : goal.returns-then-d-p
 unfolding slip_place
 returns-then-d-p c =
     let s = c.args in
-    let l : s.d < place_of s.token s.list.now + s.n = omega (arith, c.place_of-p.ensures, c.if-d-p.true) in
+    let l : s.d < place_of s.token s.listed.list.now + s.n = omega (arith, c.place_of-p.ensures, c.if-d-p.true) in
     simp (lt-leb _ s.d l, and_no)
 
 pub returns : goal.returns
@@ -41,5 +41,5 @@ returns c =
     let s = c.args in
     let l : 1 ≤ s.n = omega arith in
     let m : s.n ≤ 32 = omega arith in
-    let e : place_of s.token s.list.now + s.n ≤ s.d = omega (arith, c.place_of-p.ensures, c.if-d-p.false) in
+    let e : place_of s.token s.listed.list.now + s.n ≤ s.d = omega (arith, c.place_of-p.ensures, c.if-d-p.false) in
     c.place_of-p.ensures ∙ sym (simp (le-leb 1 s.n l, le-leb s.n 32 m, le-leb _ s.d e))

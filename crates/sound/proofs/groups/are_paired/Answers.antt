@@ -1,25 +1,18 @@
--- The pairs looked at are in use together.
-use mathlib.Core.Path.{sym, ◌∙◌}
+use mathlib.Core.Path.{◌∙◌, refl}
+use Prim.Native.Nat.{◌+◌}
 use native.Mathlib.Omega.{arith}
-use borrow.Author.Tests.{eq-eqb, ne_eqb}
-use Rattle.rules.specs.Records.{in_use}
-use Rattle.laws.proofs.Loops.{upto_all, upto_end, first_no, first_yes}
+use borrow.Author.Rules.{rules}
+use borrow.Author.Tests.{tests}
+use Rattle.std.proofs.lemmas.Iterator.{YieldsList-from_range}
+use Rattle.std.proofs.lemmas.Iterator.Search.{all_from_yields_List}
+use Rattle.rules.specs.Lists.{eqb}
+use Rattle.rules.specs.Records.{in_use, record_at}
+use Rattle.sound.proofs.groups.Grouped.{all_in}
 use Rattle.sound.proofs.groups.are_paired.Goals as goal
 
-pub loop-i-init : goal.loop-i-init
-loop-i-init c = upto_all _ 0 _
-
-pub returns-then-one-other : goal.returns-then-one-other
-unfolding in_use
-returns-then-one-other c =
-    first_no _ _ c.loop-i.i c.loop-i.invariant (omega arith)
-    (ne_eqb _ _ (λ e. c.if-one-other.true (c.word_of-one.ensures ∙ e ∙ sym c.word_of-other.ensures)))
-
-pub loop-i-preserved : goal.loop-i-preserved
-unfolding in_use
-loop-i-preserved c =
-    first_yes _ _ c.loop-i.i c.loop-i.invariant (omega arith)
-    (eq-eqb _ _ (sym c.word_of-one.ensures ∙ c.if-one-other.false ∙ c.word_of-other.ensures))
-
 pub returns : goal.returns
-returns c = upto_end _ 0 _ _ c.loop-i.invariant c.loop-i-test.false
+unfolding in_use
+returns c =
+    all_from_yields_List (λ i. eqb (in_use (record_at (c.args.a + i) c.args.book.now)) (in_use (record_at (c.args.c + i) c.args.book.now))) _ _ _ c.all.ensures.ran
+    (YieldsList-from_range 0 c.args.n c.args.n refl (omega arith)) (λ x b q k. search (rules, tests))
+    ∙ all_in _ _ _

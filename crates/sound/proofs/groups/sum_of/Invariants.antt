@@ -6,6 +6,3 @@ use Rattle.sound.proofs.groups.sum_of.Given as goal
 
 abbrev pub invariant-loop-i : goal.invariant-loop-i
 invariant-loop-i l = (l.i ≤ l.n) × (l.total ≤ l.i * 4294967295) × (l.total + sum_in l.book l.w (range (l.a + l.i) (l.n - l.i)) ≡ sum_in l.book l.w (range l.a l.n))
-
-abbrev pub decreases-loop-i : goal.decreases-loop-i
-decreases-loop-i l = l.n - l.i

@@ -1,20 +1,27 @@
 -- Judged by the numbers found, which are those of records that stand in the book.
 use mathlib.Core.Path.{refl}
 use Rattle.rules.specs.Lists.{occ}
+use Rattle.rules.specs.Steps.{authenticating, put_all}
+use Rattle.rules.proofs.Answering.{refused_by, granted_by}
 use Rattle.kinds.specs.Kinds.{desk_authenticates}
 use Rattle.steps.specs.Pairs.{desk_at}
-use Rattle.steps.proofs.handshake.Compared.{both_stand, till_behind, answered}
+use Rattle.steps.proofs.Found.{bench_stands, behind}
 use Rattle.steps.proofs.handshake.desk_authenticates.Goals as goal
 
-pub judge_desk-refused-requires : goal.judge_desk-refused-requires
+pub judge_desk-requires : goal.judge_desk-requires
 unfolding occ
-judge_desk-refused-requires c = both_stand c.requires.0 refl c.find-at.ensures
+judge_desk-requires c = rw c.find-at.ensures (bench_stands _ _ _ _ c.requires.0 refl refl refl)
 
-pub authenticate-requires : goal.authenticate-requires
+pub returns-in_err-judge_desk : goal.returns-in_err-judge_desk
+unfolding desk_authenticates desk_at
+returns-in_err-judge_desk c =
+    refused_by _ _ _ _ (rw c.find-at.ensures at c.judge_desk.ensures) _ c.in_err-judge_desk.was _ c.from_residual.ensures.1
+
+pub use_up-requires : goal.use_up-requires
 unfolding occ
-authenticate-requires c = till_behind c.requires.0 refl c.find-at.ensures c.requires.1
+use_up-requires c = rw c.find-at.ensures (behind _ _ _ _ c.requires.0 refl c.requires.1)
 
 pub returns : goal.returns
-unfolding occ desk_authenticates desk_at
+unfolding desk_authenticates desk_at authenticating put_all
 returns c =
-    answered c.requires.0 refl c.find-at.ensures 2 _ (desk_at _) c.judge_desk-refused.ensures c.authenticate.ensures
+    granted_by _ _ _ _ (rw c.find-at.ensures at c.judge_desk.ensures) _ c.in_ok-judge_desk.was _ (rw c.find-at.ensures at c.use_up.ensures)

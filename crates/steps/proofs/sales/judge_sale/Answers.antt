@@ -1,14 +1,17 @@
 -- The line's chain decides where it refuses, and the sale's where it lets pass.
+use mathlib.Core.Path.{refl, sym, ◌∙◌}
 use Rattle.steps.specs.Spots.{sale_at}
-use Rattle.rules.proofs.Answering.{first_refuses}
-use Rattle.steps.proofs.sales.Chained.{sale_judged}
+use Rattle.rules.proofs.Answering.{first_refuses, handed_on, some_number}
+use Rattle.steps.proofs.sales.Chained.{known_then}
+use Rattle.rules.specs.Records.{count, sales}
 use Rattle.steps.proofs.sales.judge_sale.Goals as goal
 
-pub returns-then-known-ne0 : goal.returns-then-known-ne0
+pub returns-in_err-known_line : goal.returns-in_err-known_line
 unfolding sale_at
-returns-then-known-ne0 c = first_refuses _ _ _ c.known_line-known.ensures c.if-known-ne0.true
+returns-in_err-known_line c =
+    let told = handed_on _ _ c.from_residual.ensures.1 in
+    first_refuses _ _ _ (told ∙ c.in_err-known_line.ensures) (λ z. some_number _ (sym told ∙ z))
 
 pub returns : goal.returns
-returns c =
-    sale_judged _ _ _ c.known_line-known.ensures c.if-known-ne0.false _ _ _ _ _
-    c.word_of.ensures c.word_of-2.ensures c.word_of-3.ensures c.sale-sale.ensures
+unfolding sale_at count sales
+returns c = known_then _ _ _ c.in_ok-known_line.ensures refl _ _ (cc)

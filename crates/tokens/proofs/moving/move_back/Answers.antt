@@ -1,15 +1,12 @@
 -- The cells from i on are moved.
-use mathlib.Core.Path.{◌≡◌, refl, sym}
+use mathlib.Core.Path.{◌≡◌, sym}
 use Prim.Native.Nat.{suc, ◌+◌, ◌-◌}
 use native.Mathlib.Omega.{arith}
-use lib.ListN.{length-set}
 use Rattle.tokens.proofs.moving.Moving.{moved_nothing, moved_before}
 use Rattle.tokens.proofs.moving.move_back.Goals as goal
 
 pub loop-i-init : goal.loop-i-init
-loop-i-init c =
-    let none : c.args.n - c.args.n ≡ 0 = omega arith in
-    (omega arith, refl, rw none (sym (moved_nothing _ _ _)))
+loop-i-init c = let none : c.args.n - c.args.n ≡ 0 = omega arith in rw none (sym (moved_nothing _ _ _))
 
 pub loop-i-preserved : goal.loop-i-preserved
 loop-i-preserved c =
@@ -18,12 +15,4 @@ loop-i-preserved c =
     let read : i ≡ suc (i - 1) = omega arith in
     let written : a.to + i ≡ suc (a.to + (i - 1)) = omega arith in
     let number : a.n - (i - 1) ≡ suc (a.n - i) = omega arith in
-    (omega arith, simp length-set (omega arith), cc (moved_before (i - 1) (a.n - i) (a.to + (i - 1)) a.cells.now (omega arith) (omega arith)))
-
-pub returns : goal.returns
-returns c =
-    let a = c.args in
-    let first : c.loop-i.i ≡ 0 = omega arith in
-    let all : a.n - c.loop-i.i ≡ a.n = omega arith in
-    let place : a.to + c.loop-i.i ≡ a.to = omega arith in
-    cc
+    cc (moved_before (i - 1) (a.n - i) (a.to + (i - 1)) a.cells.now (omega arith) (omega arith))

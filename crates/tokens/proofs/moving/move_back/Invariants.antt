@@ -1,11 +1,7 @@
 use mathlib.Core.Path.{◌≡◌}
-use Prim.Native.Nat.{◌≤◌, ◌+◌, ◌-◌}
-use lib.ListN.{length}
+use Prim.Native.Nat.{◌+◌, ◌-◌}
 use Rattle.tokens.specs.Moved.{moved}
 use Rattle.tokens.proofs.moving.move_back.Given as goal
 
 abbrev pub invariant-loop-i : goal.invariant-loop-i
-invariant-loop-i l = (l.i ≤ l.n) × (length l.cells ≡ length l.initial.cells) × (l.cells ≡ moved l.i (l.n - l.i) (l.to + l.i) l.initial.cells)
-
-abbrev pub decreases-loop-i : goal.decreases-loop-i
-decreases-loop-i l = l.i
+invariant-loop-i l = l.cells ≡ moved l.i (l.n - l.i) (l.to + l.i) l.initial.cells

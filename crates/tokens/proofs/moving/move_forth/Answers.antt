@@ -1,29 +1,19 @@
--- The first i cells are moved, four a turn; at most three are left, and each of these is moved where there is one.
-use mathlib.Core.Path.{refl, sym, ap, ◌∙◌}
-use Prim.Native.Nat.{◌+◌}
+-- The first cells are moved, four a turn; and then the few that are left.
+use mathlib.Core.Path.{sym, ap, ◌∙◌}
+use Prim.Native.Nat.{◌-◌, ◌*◌, ◌%◌}
 use native.Mathlib.Omega.{arith}
 use Rattle.tokens.specs.Moved.{moved}
-use Rattle.tokens.proofs.moving.Moving.{moved_nothing, moved_more, moved_last, forth_less}
-use borrow.Author.Rules.{rules}
+use Rattle.tokens.proofs.moving.Moving.{moved_nothing, moved_then, forth_less}
 use Rattle.tokens.proofs.moving.move_forth.Goals as goal
 
-pub loop-i-init : goal.loop-i-init
-loop-i-init c = (omega arith, refl, sym (moved_nothing _ _ _))
+pub loop-k-init : goal.loop-k-init
+loop-k-init c = sym (moved_nothing _ _ _)
 
-pub loop-i-preserved : goal.loop-i-preserved
-loop-i-preserved c =
-    let a = c.args in
-    let i = c.loop-i.i in (
-      omega arith,
-      search rules,
-      c.move_four.ensures
-          ∙ ap (moved (a.from + i) 4 (a.to + i)) c.loop-i.invariant.2
-          ∙ moved_more a.from i a.to 4 a.list.now (forth_less c.requires (i + 4) (omega arith)),
-    )
+pub loop-k-preserved : goal.loop-k-preserved
+loop-k-preserved c =
+    moved_then _ (4 * c.loop-k.k) _ 4 _ _ (forth_less c.requires _ (omega arith)) (omega arith) c.loop-k.invariant c.move_four.ensures
 
 pub returns : goal.returns
 returns c =
-    moved_last _ _ _ _ c.requires _ _ _ _ _ c.loop-i.invariant.0 (omega arith) c.loop-i.invariant.2
-    c.move_one.ensures
-    c.move_one-2.ensures
-    c.move_one-3.ensures
+    let a = c.args in
+    moved_then _ (a.n - a.n % 4) _ _ _ _ c.requires (omega arith) (c.loop-k.invariant ∙ ap (λ m. moved a.from m a.to a.list.now) (omega arith)) c.move_few.ensures

@@ -1,11 +1,8 @@
 use mathlib.Core.Path.{◌≡◌}
-use Prim.Native.Nat.{◌≤◌, ◌+◌, ◌-◌}
-use lib.ListN.{length, drop}
+use Prim.Native.Nat.{◌+◌, ◌*◌}
+use lib.ListN.{drop}
 use Rattle.rules.specs.Lists.{place_of}
 use Rattle.tokens.proofs.searching.pass_over.Given as goal
 
-abbrev pub invariant-loop-i : goal.invariant-loop-i
-invariant-loop-i l = (l.n ≡ length l.list) × (l.i ≤ length l.list) × (l.i + place_of l.token (drop l.i l.list) ≡ place_of l.token l.list)
-
-abbrev pub decreases-loop-i : goal.decreases-loop-i
-decreases-loop-i l = length l.list - l.i
+abbrev pub invariant-loop-k : goal.invariant-loop-k
+invariant-loop-k l = 32 * l.k + place_of l.token (drop (32 * l.k) l.list) ≡ place_of l.token l.list
