@@ -47,7 +47,7 @@ fn is_placed(h: Hall, e: Entry, kind: Kind) -> bool
         && is_unused_or_below(kind.uses_customer(), e.customer, h.customers)
 }
 
-// The kind of a record that numbers 2 and 3 let pass.
+// The kind of a record that numbers 2 and 3 let pass. It is put where it is called, once in a step.
 #[tactic(auto, unfolding(rules::specs::Answers::first, rules::specs::Tape::entry_rules, rules::specs::Tape::well_formed, rules::specs::Tape::in_hall, crate::specs::Fields::formed, crate::specs::Fields::placed))]
 #[inline(always)]
 pub fn judge(h: Hall, e: Entry) -> Result<Kind, Refusal>

@@ -25,7 +25,7 @@ const PART: usize = 8192;
 // Places stay below it with the records of another part. No tape comes near.
 const FAR: u64 = 9223372036854774783;
 
-// The walk ends early. What failed has been told.
+// The walk ends early. What failed has been told, but for a tape that is longer than any.
 #[derive(Clone, Copy)]
 struct Stopped;
 
@@ -206,7 +206,7 @@ fn walk(
     end_listing(rt, tokens, book)
 }
 
-// Whatever failed has been told by then: the program has nothing to add.
+// What failed has been told by then: the program has nothing to add.
 fn main(rt: HostRuntime) {
     let mut list = [0u32; 4096];
     let Some(n) = load_list(&rt, &mut list) else {
