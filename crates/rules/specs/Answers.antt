@@ -1,6 +1,6 @@
 -- Answers: the first number of a table whose test holds, and the lent cells afterwards.
-use Rattle.std.specs.Prelude.{◌≡◌, ◌∷◌}
-use Rattle.rules.specs.Lists.{ℕ, ◌-◌, Bool, cond, eqb, get_or, List, []}
+use Rattle.std.specs.Prelude.{◌≡◌, ◌-◌, ◌∷◌}
+use Rattle.rules.specs.Lists.{ℕ, Bool, cond, eqb, get_or, List, []}
 use Rattle.std.specs.Prelude.{Result, Ok, Err}
 use Rattle.rules.specs.declared.refusal.Refusal.{Refusal}
 use Rattle.rules.specs.declared.refusal.Refusal.TheVariants.{Unsound, Malformed, NotInHall, InAlready, NotJoined, NotOpen, AboveBound, OverBudget, ViewFull, ListSpent, CarnetShort, LineFull, NoToken, Unlike, DeadToken, CutShort, NoHandshake}
