@@ -42,6 +42,7 @@ fn single(answer: Result<(), Refusal>) -> Reply
 
 // The record has passed numbers 1 to 3: its kind's own checks and changes. A clear has a second number: which token is dead, or how
 // many are dropped.
+#[inline(always)]
 fn step_kind(form: Form, h: Hall, tokens: &[u32], book: &mut [u32], e: Entry, kind: Kind) -> Reply
     requires { Known (form_of form) h tokens.now book.old × (first (entry_rules h e) ≡ 0) × (kind_of kind ≡ e.kind) }
     ensures { StepGives (step (form_of form) h tokens.now book.old e) result book.new }
@@ -60,6 +61,8 @@ fn step_kind(form: Form, h: Hall, tokens: &[u32], book: &mut [u32], e: Entry, ki
     }
 }
 
+// It is put where it is called, and `step_kind` in it: a reply that is handed over has three parts and goes through memory.
+#[inline(always)]
 pub fn step_known(form: Form, h: Hall, tokens: &[u32], book: &mut [u32], e: Entry) -> Reply
     requires { Known (form_of form) h tokens.now book.old }
     ensures { StepGives (step (form_of form) h tokens.now book.old e) result book.new }
@@ -68,7 +71,8 @@ pub fn step_known(form: Form, h: Hall, tokens: &[u32], book: &mut [u32], e: Entr
     step_kind(form, h, tokens, book, e, kind)
 }
 
-// Each record of the tape in its turn, and its two numbers.
+// Each record of the tape in its turn, and its two numbers. It stands by itself, so that soundness isn't asked on top of a step's stack.
+#[inline(never)]
 pub fn run_known(
     form: Form,
     h: Hall,

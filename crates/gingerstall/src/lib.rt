@@ -210,27 +210,30 @@ fn number_of(got: Result<Entry, Unread>) -> u8
     }
 }
 
-fn entry_in(got: Result<Entry, Unread>) -> Entry
-    ensures { result ≡ entry_in got }
-{
-    match got {
-        Ok(e) => e,
-        Err(unread) => match unread {
-            Unread::Bad(_, e) => e,
-            Unread::Cut => entry(0, 0, 0, 0, 0),
-        },
-    }
-}
-
-fn put_fields(fields: &mut [u32], e: Entry)
+fn put_fields(fields: &mut [u32], e: &Entry)
     requires { length fields.old ≡ 5 }
-    ensures { fields.new ≡ fields_of e }
+    ensures { fields.new ≡ fields_of e.now }
 {
     fields[0] = u32::from(e.kind);
     fields[1] = u32::from(e.bench);
     fields[2] = u32::from(e.customer);
     fields[3] = u32::from(e.byte3);
     fields[4] = e.amount;
+}
+
+// Those of the record handed back, all zeros where there is none. They are laid in each case for itself, since a refused record stands
+// elsewhere in its `Result` than a good one: with the record taken out first, in either case, to read one took half as long again.
+fn put_handed_back(fields: &mut [u32], got: Result<Entry, Unread>)
+    requires { length fields.old ≡ 5 }
+    ensures { fields.new ≡ fields_of (entry_in got) }
+{
+    match got {
+        Ok(e) => put_fields(fields, &e),
+        Err(unread) => match unread {
+            Unread::Bad(_, e) => put_fields(fields, &e),
+            Unread::Cut => put_fields(fields, &entry(0, 0, 0, 0, 0)),
+        },
+    }
 }
 
 // The record at a place, its five fields laid into the lent ones, also where it is refused.
@@ -242,7 +245,7 @@ pub extern "C" fn gs_read(tape: &[u8], at: usize, fields: &mut [u32]) -> u8
         return 16;
     }
     let reading = Cursor { at }.read(tape);
-    put_fields(fields, entry_in(reading.got));
+    put_handed_back(fields, reading.got);
     number_of(reading.got)
 }
 

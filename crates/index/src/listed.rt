@@ -13,21 +13,21 @@ use tokens::{map, searching};
 
 // An index that is there is the list's own.
 #[derive(Clone, Copy)]
-pub struct Listed<'a> {
+pub struct Listed<'a, 'x> {
     pub list: &'a [u32],
-    pub index: Option<&'a [u16]>,
+    pub index: Option<&'x [u16]>,
     pub ghost own: { ForSome index (λ x. is_index list.now x.now ≡ true) },
 }
 
-impl<'a> Listed<'a> {
-    pub fn plain(list: &'a [u32]) -> Listed<'a>
+impl<'a, 'x> Listed<'a, 'x> {
+    pub fn plain(list: &'a [u32]) -> Listed<'a, 'x>
         ensures { (result.list ≡ list.entry) × (result.index ≡ None) }
     {
         Listed { list, index: None }
     }
 
     // None where the index isn't the list's own.
-    pub fn with(list: &'a [u32], index: &'a [u16]) -> Option<Listed<'a>>
+    pub fn with(list: &'a [u32], index: &'x [u16]) -> Option<Listed<'a, 'x>>
         ensures { (is_some result ≡ is_index list.now index.now) × ForSome result (λ l. (l.list ≡ list.entry) × (l.index ≡ Some index.entry)) }
     {
         if !checking::is_index(list, index) {

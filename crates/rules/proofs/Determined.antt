@@ -3,13 +3,13 @@
 -- value of the arguments; each crate shows its public functions of that shape (`proofs/Determined` there).
 use mathlib.Core.Path.{◌≡◌, refl, sym, ap, ◌∙◌}
 use Rattle.std.specs.Prelude.{Result, Ok, Err, IfOk}
-use Rattle.rules.specs.Lists.{ℕ, cond, eqb, get_or, List, [], ◌∷◌, ◌-◌}
+use Rattle.rules.specs.Lists.{ℕ, cond, eqb, leb, ◌&&◌, get_or, List, [], ◌∷◌, ◌-◌}
 use Rattle.rules.specs.declared.refusal.Refusal.{Refusal}
 use Rattle.rules.specs.declared.refusal.Refusal.TheVariants.{Unsound, Malformed, NotInHall, InAlready, NotJoined, NotOpen, AboveBound, OverBudget, ViewFull, ListSpent, CarnetShort, LineFull, NoToken, Unlike, DeadToken, CutShort, NoHandshake}
 use Rattle.rules.specs.declared.kind.Kind.{Kind}
 use Rattle.rules.specs.declared.kind.Kind.TheVariants.{JoinCustomer, JoinBench, OpenLine, Update, Stock, Sell, BenchAuthenticates, DeskAuthenticates, Clear, TopUp, ClearLiving}
-use Rattle.rules.specs.Answers.{number_of, verdict_of}
-use Rattle.rules.specs.Tape.{kind_of}
+use Rattle.rules.specs.Answers.{number_of, refusal_at, verdict_of}
+use Rattle.rules.specs.Tape.{kind_of, last_kind, OfNumber}
 use Rattle.rules.specs.Verdicts.{Stepped, Reply, verdict_in, second_in, StepGives}
 
 -- L permits a result z and parameters e at exit; of these a caller sees what `seen` takes from them
@@ -23,14 +23,9 @@ pub both : {A B : Type 0} {x x' : A} {y y' : B} → x ≡ x' → y ≡ y' → �
 both p q = rw (p, q)
 
 -- ---- a verdict's number is the answer's: no two refusals have the same
-abbrev refusals : List Refusal
-refusals =
-    Unsound ∷ Malformed ∷ NotInHall ∷ InAlready ∷ NotJoined ∷ NotOpen ∷ AboveBound ∷ OverBudget ∷ ViewFull ∷ ListSpent ∷ CarnetShort
-    ∷ LineFull ∷ NoToken ∷ Unlike ∷ DeadToken ∷ CutShort ∷ NoHandshake ∷ []
-
 -- x where it is granted
 abbrev pub answer_at : {A : Type 0} → A → ℕ → Result A Refusal
-answer_at x n = cond (eqb n 0) (Ok x) (Err (get_or refusals (n - 1) Unsound))
+answer_at x n = cond (eqb n 0) (Ok x) (Err (refusal_at n))
 
 refused_back : {A : Type 0} (x : A) (why : Refusal) → answer_at x (number_of why) ≡ Err why
 refused_back x Unsound = refl
@@ -83,6 +78,27 @@ kind_back DeskAuthenticates = refl
 kind_back Clear = refl
 kind_back TopUp = refl
 kind_back ClearLiving = refl
+
+-- the kind of a number, or that it names none
+abbrev pub kind_of_number : ℕ → Result Kind Refusal
+kind_of_number n = cond (leb 1 n && leb n last_kind) (Ok (kind_at n)) (Err Malformed)
+
+kind_found : (k : Kind) → ◌≡◌ {A = Result Kind Refusal} (Ok k) (kind_of_number (kind_of k))
+kind_found JoinCustomer = refl
+kind_found JoinBench = refl
+kind_found OpenLine = refl
+kind_found Update = refl
+kind_found Stock = refl
+kind_found Sell = refl
+kind_found BenchAuthenticates = refl
+kind_found DeskAuthenticates = refl
+kind_found Clear = refl
+kind_found TopUp = refl
+kind_found ClearLiving = refl
+
+pub of_number : (n : ℕ) (r : Result Kind Refusal) → OfNumber n r → r ≡ kind_of_number n
+of_number n (Ok k) is = kind_found k ∙ ap (λ (n : ℕ). kind_of_number n) is
+of_number n (Err why) none = rw (none.0, none.1) refl
 
 pub named : (n : ℕ) (r : Result Kind Refusal) → IfOk r (λ k. kind_of k ≡ n) → IfOk r (λ k. k ≡ kind_at n)
 named n (Ok k) q = kind_back k ∙ ap (λ (n : ℕ). kind_at n) q

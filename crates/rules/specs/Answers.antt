@@ -1,6 +1,6 @@
 -- Answers: the first number of a table whose test holds, and the lent cells afterwards.
-use Rattle.std.specs.Prelude.{◌≡◌, ◌∷◌}
-use Rattle.rules.specs.Lists.{ℕ, Bool, cond, eqb, List, []}
+use Rattle.std.specs.Prelude.{◌≡◌, ◌-◌, ◌∷◌}
+use Rattle.rules.specs.Lists.{ℕ, Bool, cond, eqb, get_or, List, []}
 use Rattle.std.specs.Prelude.{Result, Ok, Err}
 use Rattle.rules.specs.declared.refusal.Refusal.{Refusal}
 use Rattle.rules.specs.declared.refusal.Refusal.TheVariants.{Unsound, Malformed, NotInHall, InAlready, NotJoined, NotOpen, AboveBound, OverBudget, ViewFull, ListSpent, CarnetShort, LineFull, NoToken, Unlike, DeadToken, CutShort, NoHandshake}
@@ -47,6 +47,15 @@ number_of Unlike = 14
 number_of DeadToken = 15
 number_of CutShort = 16
 number_of NoHandshake = 17
+
+-- the refusal of such a number
+abbrev pub refusal_at : ℕ → Refusal
+refusal_at n =
+    get_or
+    (Unsound ∷ Malformed ∷ NotInHall ∷ InAlready ∷ NotJoined ∷ NotOpen ∷ AboveBound ∷ OverBudget ∷ ViewFull ∷ ListSpent ∷ CarnetShort
+    ∷ LineFull ∷ NoToken ∷ Unlike ∷ DeadToken ∷ CutShort ∷ NoHandshake ∷ [])
+    (n - 1)
+    Unsound
 
 -- the number of an answer, whatever it answers where it is granted
 abbrev pub verdict_of : {A : Type 0} → Result A Refusal → ℕ

@@ -10,7 +10,9 @@ ghost use Rattle.sound.specs.Together.{held_in};
 
 use index::listed::Listed;
 
-// Marks the tokens of n records from record a on, if there is a map; whether each was new in its turn.
+// Marks the tokens of n records from record a on, if there is a map; whether each was new in its turn. It is put where it is called, as
+// `sound::are_good` is.
+#[inline(always)]
 pub fn mark_records(listed: Listed, book: &[u32], a: usize, n: usize, map: &mut [u64]) -> bool
     requires { (words * (a + n) ≤ length book.now) × (mapped map.old ≡ true) × (length listed.list.now ≤ most_tokens) × (every (λ k. every (λ t. is_in t listed.list.now) (held (record_at k book.now))) (range a n) ≡ true) }
     ensures { Marked map.old (places_of listed.entry.list.now (held_in book.now (range a n))) result map.new }

@@ -20,7 +20,7 @@ fn part_from(list: &[u32], p: usize, n: usize) -> &[u32]
 }
 
 // The part of the list that a slip stands for.
-pub fn part_by<'a>(listed: Listed<'a>, token: u32, n: usize) -> &'a [u32]
+pub fn part_by<'a>(listed: Listed<'a, '_>, token: u32, n: usize) -> &'a [u32]
     ensures { result.now ≡ open_slip listed.entry.list.now token n }
 {
     part_from(listed.list, listed.place_of(token), n)

@@ -25,7 +25,9 @@ pub fn is_good_list(list: &[u32]) -> bool
     list.len() <= 4096 && searching::all_different(list)
 }
 
-// Each of the first n records by itself, with d tokens dealt.
+// Each of the first n records by itself, with d tokens dealt. This, what it asks of a record and `are_accounts_good` are put where they
+// are called: a book or a list with its index is handed over as a copy, and the test of soundness goes deepest of all on the stack.
+#[inline(always)]
 pub fn are_good(h: Hall, listed: Listed, book: &[u32], d: usize, n: usize) -> bool
     requires { words * n ≤ length book.now }
     ensures { result ≡ every (λ k. record_good h listed.entry.list.now d k (record_at k book.now)) (range 0 n) }
@@ -84,6 +86,7 @@ fn is_money_good(book: HallBook) -> bool
 }
 
 // What both books share word for word.
+#[inline(always)]
 pub fn are_accounts_good(book: HallBook) -> bool
     ensures { result ≡ accounts_good book.entry.hall (λ k. record_at k book.entry.pages.now) }
 {

@@ -102,6 +102,7 @@ fn fits_place(h: Hall, list: &[u32], k: usize, rec: &[u32]) -> bool
 
 // All that record k is asked by itself, with d tokens dealt; its tokens are looked up by the index, where there is one.
 #[tactic(auto, unfolding(rules::specs::Sound::record_good))]
+#[inline(always)]
 pub fn is_good(h: Hall, listed: Listed, d: usize, k: usize, rec: &[u32]) -> bool
     requires { length rec.now ≡ words }
     ensures { result ≡ record_good h listed.entry.list.now d k rec.now }

@@ -9,6 +9,7 @@ use Rattle.tape.proofs.Cursor.read_of.Reads as read_of_call
 use Rattle.tape.proofs.Cursor.read.Reads as read_call
 use Rattle.tape.proofs.write_of.Reads as write_of_call
 use Rattle.tape.proofs.write.Reads as write_call
+use Rattle.tape.proofs.RefusalFromUnread.from.Reads as from_call
 
 judge_determined : (κs : _) (a : _) → Determined (judge_call.Learnt κs a) (λ z e. z)
 judge_determined κs a = determined _ _ _ (λ z e p. answered_with _ z p.0 (named _ z p.1))
@@ -27,3 +28,6 @@ write_of_determined κs a = determined _ _ _ (λ z e p. both (answered p.number)
 
 write_determined : (κs : _) (a : _) → Determined {O = Verdict × List ℕ} (write_call.Learnt κs a) (λ z e. (z, e.1.0.now))
 write_determined κs a = determined _ _ _ (λ z e p. both (answered p.number) p.cells)
+
+from_determined : (κs : _) (a : _) → Determined (from_call.Learnt κs a) (λ z e. z)
+from_determined κs a = determined _ _ _ (λ z e p. p)

@@ -1,5 +1,8 @@
 -- The reader's answer: where a record is refused, and that nothing of the paper's answer is lost in the result.
-use mathlib.Core.Path.{◌≡◌}
+use mathlib.Core.Path.{◌≡◌, refl}
+use mathlib.Core.Logic.{⊎_elim}
+use borrow.Author.Tests.{ne_eqb}
+use Rattle.rules.proofs.Tests.{same}
 use Prim.Native.Nat.{◌≤◌}
 use native.Mathlib.Omega.{arith}
 use Rattle.std.proofs.lemmas.Grind.{common_steps}
@@ -12,12 +15,38 @@ use Rattle.rules.specs.declared.Hall.{Hall}
 use Rattle.rules.proofs.Answering.{some_number}
 use Rattle.rules.proofs.Determined.{answered}
 use Rattle.rules.proofs.Writing.{read_whole}
-use Rattle.tape.specs.Reading.{got_of, reading, on_paper}
-use Rattle.std.specs.Prelude.{Result, Err}
+use Rattle.tape.specs.Reading.{got_of, reading, number_of, entry_in, on_paper}
+use Rattle.std.specs.Prelude.{Result, Ok, Err}
 use Rattle.rules.specs.declared.refusal.Refusal.{Refusal}
-use Rattle.rules.specs.declared.refusal.Refusal.TheVariants.{Malformed, NotInHall}
+use Rattle.rules.specs.declared.refusal.Refusal.TheVariants.{Unsound, Malformed, NotInHall, InAlready, NotJoined, NotOpen, AboveBound, OverBudget, ViewFull, ListSpent, CarnetShort, LineFull, NoToken, Unlike, DeadToken, CutShort, NoHandshake}
 use Rattle.tape.specs.declared.Unread.TheVariants.{Bad}
 use Rattle.tape.specs.declared.Reading.{Reading}
+
+-- ---- the result of a number: the number stays the same, and so does the record
+pub got_number : (a : Result (Unit {0}) Refusal) (e : Entry) → number_of (got_of (rules.verdict_of a) e) ≡ rules.verdict_of a
+unfolding got_of
+got_number (Ok done) e = refl
+got_number (Err Unsound) e = refl
+got_number (Err Malformed) e = refl
+got_number (Err NotInHall) e = refl
+got_number (Err InAlready) e = refl
+got_number (Err NotJoined) e = refl
+got_number (Err NotOpen) e = refl
+got_number (Err AboveBound) e = refl
+got_number (Err OverBudget) e = refl
+got_number (Err ViewFull) e = refl
+got_number (Err ListSpent) e = refl
+got_number (Err CarnetShort) e = refl
+got_number (Err LineFull) e = refl
+got_number (Err NoToken) e = refl
+got_number (Err Unlike) e = refl
+got_number (Err DeadToken) e = refl
+got_number (Err CutShort) e = refl
+got_number (Err NoHandshake) e = refl
+
+pub got_entry : (n : ℕ) (e : Entry) → (n ≡ 16 → ⊥) → entry_in (got_of n e) ≡ e
+unfolding got_of
+got_entry n e q = ⊎_elim (λ (z : n ≡ 0). rw z) (λ (p : n ≡ 0 → ⊥). rw (ne_eqb n 0 p, ne_eqb n 16 q)) (same n 0)
 
 -- a record's refusal is that of its number: 2 and 3 alone are given of a record by itself
 got_bad : (h : Hall) (e : Entry) (why : Refusal) → rules.number_of why ≡ first (entry_rules h e) → got_of (first (entry_rules h e)) e ≡ Err (Bad why e)

@@ -6,14 +6,13 @@ use Rattle.std.specs.Prelude.{Result, Ok, Err}
 use Rattle.rules.specs.Answers as rules
 use Rattle.rules.specs.declared.Entry.{Entry}
 use Rattle.rules.specs.declared.refusal.Refusal.{Refusal}
-use Rattle.rules.specs.declared.refusal.Refusal.TheVariants.{Malformed, NotInHall, CutShort}
+use Rattle.rules.specs.declared.refusal.Refusal.TheVariants.{CutShort}
 use Rattle.tape.specs.declared.Unread.{Unread}
 use Rattle.tape.specs.declared.Unread.TheVariants.{Bad, Cut}
 use Rattle.tape.specs.declared.Reading.{Reading}
 
--- of a record by itself only 2 and 3 are given
 unfoldable pub got_of : ℕ → Entry → Result Entry Unread
-got_of n e = cond (eqb n 0) (Ok e) (cond (eqb n 16) (Err Cut) (Err (Bad (cond (eqb n 2) Malformed NotInHall) e)))
+got_of n e = cond (eqb n 0) (Ok e) (cond (eqb n 16) (Err Cut) (Err (Bad (rules.refusal_at n) e)))
 
 abbrev pub refusal_of : Unread → Refusal
 refusal_of (Bad why e) = why

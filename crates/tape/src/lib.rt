@@ -47,14 +47,15 @@ fn is_placed(h: Hall, e: Entry, kind: Kind) -> bool
         && is_unused_or_below(kind.uses_customer(), e.customer, h.customers)
 }
 
-// The kind of a record that numbers 2 and 3 let pass. It is put where it is called, once in a step.
+// Numbers 2 and 3 of a record whose kind is known. It is put where it is called, each time for one kind, so that which fields are used
+// is settled when it is compiled.
 #[tactic(auto, unfolding(rules::specs::Answers::first, rules::specs::Tape::entry_rules, rules::specs::Tape::well_formed, rules::specs::Tape::in_hall, crate::specs::Fields::formed, crate::specs::Fields::placed))]
 #[inline(always)]
-pub fn judge(h: Hall, e: Entry) -> Result<Kind, Refusal>
+fn judge_of(h: Hall, e: Entry, kind: Kind) -> Result<Kind, Refusal>
+    requires { kind_of kind ≡ e.kind }
     ensures number { verdict_of result ≡ first (entry_rules h e) }
     ensures kind { IfOk result (λ k. kind_of k ≡ e.kind) }
 {
-    let kind = Kind::try_from(e.kind)?;
     if !is_formed(e, kind) {
         return Err(Refusal::Malformed);
     }
@@ -62,6 +63,29 @@ pub fn judge(h: Hall, e: Entry) -> Result<Kind, Refusal>
         return Err(Refusal::NotInHall);
     }
     Ok(kind)
+}
+
+// The kind of a record that numbers 2 and 3 let pass. It is put where it is called, once in a step. The kind is looked at once, and each has
+// a call of its own: with one call for all, which fields a kind uses was asked five times over, and a record read took two thirds more.
+#[tactic(auto, unfolding(rules::specs::Answers::first, rules::specs::Tape::entry_rules, rules::specs::Tape::well_formed))]
+#[inline(always)]
+pub fn judge(h: Hall, e: Entry) -> Result<Kind, Refusal>
+    ensures number { verdict_of result ≡ first (entry_rules h e) }
+    ensures kind { IfOk result (λ k. kind_of k ≡ e.kind) }
+{
+    match Kind::try_from(e.kind)? {
+        Kind::JoinCustomer => judge_of(h, e, Kind::JoinCustomer),
+        Kind::JoinBench => judge_of(h, e, Kind::JoinBench),
+        Kind::OpenLine => judge_of(h, e, Kind::OpenLine),
+        Kind::Update => judge_of(h, e, Kind::Update),
+        Kind::Stock => judge_of(h, e, Kind::Stock),
+        Kind::Sell => judge_of(h, e, Kind::Sell),
+        Kind::BenchAuthenticates => judge_of(h, e, Kind::BenchAuthenticates),
+        Kind::DeskAuthenticates => judge_of(h, e, Kind::DeskAuthenticates),
+        Kind::Clear => judge_of(h, e, Kind::Clear),
+        Kind::TopUp => judge_of(h, e, Kind::TopUp),
+        Kind::ClearLiving => judge_of(h, e, Kind::ClearLiving),
+    }
 }
 
 // A reader's place on the tape.
@@ -121,8 +145,10 @@ pub fn entry_at(bytes: &[u8], at: usize) -> Entry
 }
 
 impl Cursor {
-    // The record at the cursor. A record that is refused is passed over, so that the one after it can be read.
+    // The record at the cursor. A record that is refused is passed over, so that the one after it can be read. It is put where it is
+    // called, as `judge` is, so that who asks for the next place alone doesn't pay for the rest.
     #[tactic(auto, unfolding(rules::specs::Tape::read_at, crate::specs::Reading::got_of, crate::specs::Reading::reading))]
+    #[inline(always)]
     pub fn read_of(self, h: Hall, tape: &[u8]) -> Reading
         ensures { result ≡ reading (read_at h tape.now self.at) }
     {
@@ -145,6 +171,7 @@ impl Cursor {
     }
 
     // In the hall in use.
+    #[inline(always)]
     pub fn read(self, tape: &[u8]) -> Reading
         ensures { result ≡ reading (read_at main_hall tape.now self.at) }
     {

@@ -53,7 +53,8 @@ pub fn is_in(list: &[u32], token: u32) -> bool
     found
 }
 
-// Whether a token is among the first n of a list.
+// Whether a token is among the first n of a list. It stands by itself: within the test of soundness its loop took 5% more of a full book.
+#[inline(never)]
 pub fn is_among(list: &[u32], n: usize, token: u32) -> bool
     ensures { result ≡ is_in token (take n list.now) }
 {
